@@ -1,0 +1,13 @@
+pub mod Causes
+pub mod Told
+pub mod Event
+pub mod FileMap
+pub mod Entries
+pub mod Schedule
+pub mod SteadyFiles
+pub mod MemFiles
+pub mod Sink
+pub mod MemSink
+pub mod Signature
+pub mod Hosts
+pub mod FixedHost
