@@ -1,0 +1,7 @@
+//! Instructions and images.
+#![tactic(auto)]
+
+pub mod image;
+pub mod instr;
+pub mod op;
+pub mod write;

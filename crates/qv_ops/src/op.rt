@@ -1,0 +1,198 @@
+//! Opcodes of the virtual machine.
+ghost use Rattle.std.specs.Prelude.{◌≡◌};
+ghost use Rattle.qv_ops.specs.Table.{number_of_op, width_of_op};
+
+/// An integer opcode of the Quake III 1.32 interpreter, with its number.
+///
+/// 0 (UNDEF) and the opcodes of floating-point arithmetic (21 to 26 and 53 to 59) have no variant.
+/// The words that an opcode pops stand on the operand stack, the lower one its left operand. The
+/// operand is the number that the instruction carries, and a branch goes to the instruction that
+/// its operand numbers.
+#[derive(Clone, Copy, Debug, PartialEq, Eq)]
+pub enum Op {
+    /// Does nothing.
+    Ignore = 1,
+    /// Does nothing.
+    Break = 2,
+    /// Opens a frame: lowers the program stack by the operand.
+    Enter = 3,
+    /// Closes a frame: raises the program stack by the operand and returns to the caller.
+    Leave = 4,
+    /// Pops an address and calls the function or the trap there.
+    Call = 5,
+    /// Pushes 0.
+    Push = 6,
+    /// Drops the top word.
+    Pop = 7,
+    /// Pushes the operand.
+    Const = 8,
+    /// Pushes the address at the operand's offset from the program stack.
+    Local = 9,
+    /// Pops the number of an instruction and goes there.
+    Jump = 10,
+    /// Pops two words and branches if they are equal.
+    Eq = 11,
+    /// Pops two words and branches if they differ.
+    Ne = 12,
+    /// Pops two words and branches if the lower is less, as signed words.
+    Lti = 13,
+    /// Pops two words and branches if the lower is less or equal, as signed words.
+    Lei = 14,
+    /// Pops two words and branches if the lower is greater, as signed words.
+    Gti = 15,
+    /// Pops two words and branches if the lower is greater or equal, as signed words.
+    Gei = 16,
+    /// Pops two words and branches if the lower is less, as unsigned words.
+    Ltu = 17,
+    /// Pops two words and branches if the lower is less or equal, as unsigned words.
+    Leu = 18,
+    /// Pops two words and branches if the lower is greater, as unsigned words.
+    Gtu = 19,
+    /// Pops two words and branches if the lower is greater or equal, as unsigned words.
+    Geu = 20,
+    /// Replaces an address by the byte there.
+    Load1 = 27,
+    /// Replaces an address by the half word there.
+    Load2 = 28,
+    /// Replaces an address by the word there.
+    Load4 = 29,
+    /// Pops a word and an address, and stores the word's low byte.
+    Store1 = 30,
+    /// Pops a word and an address, and stores the word's low half.
+    Store2 = 31,
+    /// Pops a word and an address, and stores the word.
+    Store4 = 32,
+    /// Pops a word and stores it at the operand's offset from the program stack.
+    Arg = 33,
+    /// Pops two addresses and copies as many bytes as the operand says.
+    BlockCopy = 34,
+    /// Extends the sign of the low byte.
+    Sex8 = 35,
+    /// Extends the sign of the low half word.
+    Sex16 = 36,
+    /// Negates.
+    Negi = 37,
+    /// Adds.
+    Add = 38,
+    /// Subtracts.
+    Sub = 39,
+    /// Divides, as signed words.
+    Divi = 40,
+    /// Divides, as unsigned words.
+    Divu = 41,
+    /// Takes the remainder, as signed words.
+    Modi = 42,
+    /// Takes the remainder, as unsigned words.
+    Modu = 43,
+    /// Multiplies, as signed words.
+    Muli = 44,
+    /// Multiplies, as unsigned words.
+    Mulu = 45,
+    /// Bitwise and.
+    Band = 46,
+    /// Bitwise or.
+    Bor = 47,
+    /// Bitwise exclusive or.
+    Bxor = 48,
+    /// Bitwise complement.
+    Bcom = 49,
+    /// Shifts left.
+    Lsh = 50,
+    /// Shifts right, and keeps the sign.
+    Rshi = 51,
+    /// Shifts right, and brings in zeros.
+    Rshu = 52,
+}
+
+/// The opcode's number: its byte in an image's code.
+pub fn number_of(op: Op) -> u8
+    ensures { result ≡ number_of_op op }
+{
+    op as u8
+}
+
+/// How many bytes of operand an instruction with this opcode carries: 0, 1 or 4.
+pub fn width(op: Op) -> u32
+    ensures { result ≡ width_of_op op }
+{
+    match op {
+        Op::Enter
+        | Op::Leave
+        | Op::Const
+        | Op::Local
+        | Op::Eq
+        | Op::Ne
+        | Op::Lti
+        | Op::Lei
+        | Op::Gti
+        | Op::Gei
+        | Op::Ltu
+        | Op::Leu
+        | Op::Gtu
+        | Op::Geu
+        | Op::BlockCopy => 4,
+        Op::Arg => 1,
+        _ => 0,
+    }
+}
+
+#[cfg(test)]
+mod tests {
+    use super::*;
+
+    #[test]
+    fn follows_the_table(rt: HostRuntime) {
+        let table = [
+            (Op::Ignore, 1, 0),
+            (Op::Break, 2, 0),
+            (Op::Enter, 3, 4),
+            (Op::Leave, 4, 4),
+            (Op::Call, 5, 0),
+            (Op::Push, 6, 0),
+            (Op::Pop, 7, 0),
+            (Op::Const, 8, 4),
+            (Op::Local, 9, 4),
+            (Op::Jump, 10, 0),
+            (Op::Eq, 11, 4),
+            (Op::Ne, 12, 4),
+            (Op::Lti, 13, 4),
+            (Op::Lei, 14, 4),
+            (Op::Gti, 15, 4),
+            (Op::Gei, 16, 4),
+            (Op::Ltu, 17, 4),
+            (Op::Leu, 18, 4),
+            (Op::Gtu, 19, 4),
+            (Op::Geu, 20, 4),
+            (Op::Load1, 27, 0),
+            (Op::Load2, 28, 0),
+            (Op::Load4, 29, 0),
+            (Op::Store1, 30, 0),
+            (Op::Store2, 31, 0),
+            (Op::Store4, 32, 0),
+            (Op::Arg, 33, 1),
+            (Op::BlockCopy, 34, 4),
+            (Op::Sex8, 35, 0),
+            (Op::Sex16, 36, 0),
+            (Op::Negi, 37, 0),
+            (Op::Add, 38, 0),
+            (Op::Sub, 39, 0),
+            (Op::Divi, 40, 0),
+            (Op::Divu, 41, 0),
+            (Op::Modi, 42, 0),
+            (Op::Modu, 43, 0),
+            (Op::Muli, 44, 0),
+            (Op::Mulu, 45, 0),
+            (Op::Band, 46, 0),
+            (Op::Bor, 47, 0),
+            (Op::Bxor, 48, 0),
+            (Op::Bcom, 49, 0),
+            (Op::Lsh, 50, 0),
+            (Op::Rshi, 51, 0),
+            (Op::Rshu, 52, 0),
+        ];
+        for (op, number, bytes) in table {
+            assert_eq!(rt; number_of(op), number, "number of {op:?}");
+            assert_eq!(rt; width(op), bytes, "width of {op:?}");
+        }
+    }
+}

@@ -1,0 +1,11 @@
+mod Masks
+mod Served
+pub mod Sizes
+pub mod Appending
+pub mod Runs
+pub mod RanLaws
+pub mod Loop
+pub mod CallLaws
+pub mod Goes
+pub mod Frame
+pub mod Quiet

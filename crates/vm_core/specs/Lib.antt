@@ -1,0 +1,6 @@
+pub mod Memory
+pub mod Machine
+pub mod Calls
+pub mod Joined
+pub mod Ran
+pub mod Module

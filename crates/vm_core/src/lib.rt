@@ -1,0 +1,12 @@
+// The machine of Quake III game modules (QVM): the instructions of the Quake III Arena 1.32
+// interpreter, where every access is kept within the block and every fault is a named stop.
+#![tactic(auto)]
+
+mod block;
+pub mod module;
+mod running;
+mod stack;
+mod step;
+pub mod stop;
+#[cfg(test)]
+mod tests;

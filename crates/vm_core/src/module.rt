@@ -1,0 +1,26 @@
+// A module: an image that runs.
+ghost use Rattle.std.specs.Prelude.{◌≤◌, ◌<◌, ◌^◌, vec_len};
+
+use crate::block::Block;
+use qv_ops::instr::Instr;
+
+/// What changes at every step: the operand stack's top, the program stack's place, and the number of
+/// the next instruction.
+#[derive(Clone, Copy)]
+pub(crate) struct Registers {
+    pub(crate) top: usize,
+    pub(crate) program_stack: u32,
+    pub(crate) next: u32,
+    ghost top_fits: { top ≤ 256 },
+}
+
+/// A module: the instructions of an image, its block and its stacks. It runs while it is ready.
+#[derive(Drop)]
+pub struct Module {
+    pub(crate) code: Vec<Instr>,
+    pub(crate) block: Block,
+    pub(crate) words: [u32; 256],
+    pub(crate) registers: Registers,
+    pub(crate) ready: bool,
+    ghost code_fits: { vec_len code < 2 ^ 31 },
+}

@@ -1,0 +1,117 @@
+// Loading, starting and running a module.
+ghost use Rattle.std.specs.Prelude.{◌≡◌, ◌≢◌, IsTrue, ◌↔◌, ◌≤◌, IfOk, true, false};
+ghost use Rattle.qv_ops.specs.Shown.{qvm_of};
+ghost use Rattle.qv_outside.specs.Causes.{Rose};
+ghost use Rattle.qv_outside.specs.Hosts.{Table};
+ghost use Rattle.vm_core.specs.Machine.{turn, started, fresh_memory};
+ghost use Rattle.vm_core.specs.Module.{code_of, state_of, state_at, ready_of, all_served};
+ghost use Rattle.vm_core.specs.Ran.{Ran, Outside, outside, close_of};
+
+use crate::block::{Block, size_for};
+use crate::module::{Module, Registers};
+use crate::stack::empty;
+use crate::step::step;
+use crate::stop::Stop;
+use qv_base::NoMemory;
+use qv_ops::image::Image;
+use qv_outside::host::Host;
+use qv_outside::sink::Sink;
+use std::alloc::Global;
+
+impl Module {
+    /// A module over an image's fresh block: the data and the literals, and zero bytes behind them. It
+    /// isn't ready.
+    ///
+    /// # Errors
+    ///
+    /// NoMemory where memory for the code or the block is refused.
+    pub fn load(alloc: Global, image: &Image) -> Result<Module, NoMemory>
+        ensures code { IfOk result (λ m. code_of m ≡ (qvm_of image.now).code) }
+        ensures memory { IfOk result (λ m. (state_of m).memory ≡ fresh_memory (qvm_of image.now)) }
+        ensures unready { IfOk result (λ m. ready_of m ≡ false) }
+    {
+        let need = image.data_part.len() as u32 + image.lit.len() as u32 + image.bss;
+        let size = size_for(need);
+        let code = image.code.to_vec(alloc)?;
+        let block = Block::new(alloc, &image.data_part, &image.lit, size)?;
+        Ok(Module {
+            code,
+            block,
+            words: [0; 256],
+            registers: Registers {
+                top: 256,
+                program_stack: size - 64,
+                next: 0,
+            },
+            ready: false,
+        })
+    }
+
+    /// Makes it ready for a call with these words, at the first instruction and with an empty operand
+    /// stack. The last 64 bytes of the block become the entry frame; the others stay.
+    pub fn start(&mut self, args: &[u32; 14])
+        ensures state { state_of self.new ≡ started (state_of self.old).memory args.now }
+        ensures code { code_of self.new ≡ code_of self.old }
+        ensures ready { ready_of self.new ≡ true }
+    {
+        let top = self.block.size() - 64;
+        let mut words = [0u32; 16];
+        words[0] = u32::MAX;
+        words[2..].copy_from_slice(args);
+        self.block.put_words(top as usize, &words);
+        self.registers = Registers {
+            top: empty(&self.words),
+            program_stack: top,
+            next: 0,
+        };
+        self.ready = true;
+    }
+
+    /// Whether it may run: after `start`, until a run ends otherwise than by `Stop::Budget`.
+    pub fn is_ready(&self) -> bool
+        ensures { result ≡ ready_of self.now }
+    {
+        self.ready
+    }
+
+    /// Makes at most `n` steps: `host` answers traps, and `out` takes the text that is printed. After
+    /// `Stop::Budget` it goes on from there when it is run again; after any other stop it has to be
+    /// started first.
+    // Not inlined: the loop is laid out the same wherever it is called from.
+    #[inline(never)]
+    pub fn run<H: Host, O: Sink>(&mut self, n: u64, host: &mut H, out: &mut O) -> Stop
+        requires ready { ready_of self.old ≡ true }
+        requires served { IsTrue (all_served (code_of self.old)) }
+        ensures ran { Ran (turn (code_of self.old) (H.table host.old)) n (state_of self.old) (state_of self.new) (outside (H.asked host.old) (H.replied host.old) (O.written out.old)) (outside (H.asked host.new) (H.replied host.new) (O.written out.new)) (close_of result) }
+        ensures code { code_of self.new ≡ code_of self.old }
+        ensures ready { IsTrue (ready_of self.new) ↔ (result ≡ Stop.Budget) }
+        ensures kept { H.kept host.new ≡ H.kept host.old }
+        ensures table { H.table host.new ≡ H.table host.old }
+        ensures host_later { H.faults host.old ≤ H.faults host.new }
+        ensures out_later { O.faults out.old ≤ O.faults out.new }
+        ensures host_fault { result ≡ Stop.HostFault → Rose (H.faults host.old) (H.faults host.new) }
+        ensures out_fault { result ≡ Stop.OutFault → Rose (O.faults out.old) (O.faults out.new) }
+    {
+        let mut registers = self.registers;
+        let stop = turns(self, &mut registers, n);
+        self.registers = registers;
+        self.ready = matches!(stop, Stop::Budget);
+        stop
+    }
+}
+
+// At most n steps. No instruction that is served so far asks the host or puts.
+fn turns(m: &mut Module, r: &mut Registers, n: u64) -> Stop
+    requires { IsTrue (all_served (code_of m.old)) }
+    ensures ran { (table : Table) (told : Outside) → Ran (turn (code_of m.old) table) n (state_at m.old r.old) (state_at m.new r.new) told told (close_of result) }
+    ensures code { code_of m.new ≡ code_of m.old }
+    ensures no_host_fault { result ≢ Stop.HostFault }
+    ensures no_out_fault { result ≢ Stop.OutFault }
+{
+    for _ in 0..n {
+        if let Some(stop) = step(m, r) {
+            return stop;
+        }
+    }
+    Stop::Budget
+}
