@@ -1,0 +1,7 @@
+pub mod Source
+pub mod Follows
+pub mod Sum
+pub mod FirstForm
+pub mod Token
+pub mod Translation
+pub mod Unit
