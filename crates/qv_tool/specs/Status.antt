@@ -1,0 +1,12 @@
+-- The numbers of statuses.
+use Rattle.std.specs.Prelude.{ℕ}
+use Rattle.qv_tool.specs.declared.status.Status.{Status}
+use Rattle.qv_tool.specs.declared.status.Status.TheVariants.{Done, Missing, ReadFault, WriteFault, NoMemory, NotYet}
+
+abbrev pub code_of : Status → ℕ
+code_of Done = 0
+code_of Missing = 7
+code_of ReadFault = 8
+code_of WriteFault = 9
+code_of NoMemory = 11
+code_of NotYet = 12

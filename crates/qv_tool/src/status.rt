@@ -1,0 +1,34 @@
+// Statuses.
+ghost use Rattle.std.specs.Prelude.{◌≡◌};
+ghost use Rattle.qv_tool.specs.Status.{code_of};
+
+/// How a call of the tool ends.
+#[derive(Clone, Copy, Debug, PartialEq, Eq)]
+pub enum Status {
+    /// The module was built and its call returned.
+    Done,
+    /// A file that is needed is absent or too long.
+    Missing,
+    /// A read of a file failed.
+    ReadFault,
+    /// A write of a file, or of the line that ends the call, failed.
+    WriteFault,
+    /// Memory was wanting.
+    NoMemory,
+    /// The words or the unit are of a form that isn't served yet.
+    NotYet,
+}
+
+/// The status's number, with which the program exits.
+pub fn status_code(status: Status) -> u8
+    ensures { result ≡ code_of status }
+{
+    match status {
+        Status::Done => 0,
+        Status::Missing => 7,
+        Status::ReadFault => 8,
+        Status::WriteFault => 9,
+        Status::NoMemory => 11,
+        Status::NotYet => 12,
+    }
+}
