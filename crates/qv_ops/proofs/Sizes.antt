@@ -1,20 +1,15 @@
 -- Sizes of code.
-use Rattle.std.proofs.Common.{◌≤◌, ℕ, zero, suc, ◌+◌, ◌-◌, ◌*◌, ◌%◌, List, [], ◌∷◌, length, arith, length-append}
-use Rattle.std.proofs.lemmas.List.{length-replicate}
+use Rattle.std.proofs.Common.{◌≤◌, ℕ, zero, suc, ◌*◌, List, [], ◌∷◌, length, arith, length-append}
 use Rattle.qv_ops.specs.declared.instr.Instr.{Instr}
 use Rattle.qv_ops.specs.Table.{width_of_op}
 use Rattle.qv_ops.specs.Code.{code_bytes, instr_bytes, operand_bytes}
-use Rattle.qv_ops.specs.Image.{padding, padded_code}
 
 -- each instruction has a byte or more
 pub length-code_bytes : (code : List Instr) → length code ≤ length (code_bytes code)
 length-code_bytes [] = omega arith
 length-code_bytes (i ∷ code) = omega (arith, length-code_bytes code, length-append (instr_bytes i) (code_bytes code))
 
-pub length-padded_code : (code : List Instr) → length code ≤ length (padded_code code)
-length-padded_code code = omega (arith, length-code_bytes code, length-append (code_bytes code) (padding (code_bytes code)))
-
--- and five at most, with three of padding behind them all
+-- and five at most
 pub length-operand_bytes-le : (w v : ℕ) → length (operand_bytes w v) ≤ 4
 length-operand_bytes-le zero v = omega arith
 length-operand_bytes-le (suc zero) v = omega arith
@@ -24,12 +19,3 @@ pub length-code_bytes-le : (code : List Instr) → length (code_bytes code) ≤ 
 length-code_bytes-le [] = omega arith
 length-code_bytes-le (i ∷ code) =
     omega (arith, length-code_bytes-le code, length-operand_bytes-le (width_of_op i.op) i.operand, length-append (instr_bytes i) (code_bytes code))
-
-pub length-padding-le : (bytes : List ℕ) → length (padding bytes) ≤ 3
-length-padding-le bytes =
-    let zero_byte : ℕ = 0 in
-    omega (arith, length-replicate ((4 - length bytes % 4) % 4) zero_byte)
-
-pub length-padded_code-le : (code : List Instr) → length (padded_code code) ≤ 5 * length code + 3
-length-padded_code-le code =
-    omega (arith, length-code_bytes-le code, length-padding-le (code_bytes code), length-append (code_bytes code) (padding (code_bytes code)))

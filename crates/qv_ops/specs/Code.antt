@@ -1,12 +1,17 @@
 -- The bytes of instructions, and which instructions have bytes.
 use Rattle.std.specs.Prelude.{ℕ, ◌^◌, zero, suc, Bool, ◌||◌, not, nat_lt, ◌==◌, List, [], ◌∷◌, flat_map}
 use Rattle.std.specs.Int.{to_le_bytes, w32}
+use Rattle.byteorder.specs.Endian.{little_number}
 use Rattle.qv_ops.specs.declared.instr.Instr.{Instr}
 use Rattle.qv_ops.specs.Table.{number_of_op, width_of_op, is_branch}
 
 -- the four bytes of a word, the lowest first
 abbrev pub word_bytes : ℕ → List ℕ
 word_bytes w = to_le_bytes w32 w
+
+-- the word that stands first in the bytes, the lowest byte first
+abbrev pub word_in : List ℕ → ℕ
+word_in bytes = little_number 4 bytes
 
 -- an operand in its width
 abbrev pub operand_bytes : ℕ → ℕ → List ℕ

@@ -1,4 +1,3 @@
 pub mod Table
 pub mod Code
-pub mod Image
-pub mod Shown
+pub mod Cut

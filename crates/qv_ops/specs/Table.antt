@@ -1,5 +1,5 @@
 -- The table of opcodes.
-use Rattle.std.specs.Prelude.{ℕ, Bool, true, false}
+use Rattle.std.specs.Prelude.{ℕ, Bool, true, false, ◌==◌, ◌&&◌, ◌||◌, nat_le, List, [], ◌∷◌, Option, find}
 use Rattle.qv_ops.specs.declared.op.Op.{Op}
 use Rattle.qv_ops.specs.declared.op.Op.TheVariants.{Ignore, Break, Enter, Leave, Call, Push, Pop, Const, Local, Jump, Eq, Ne, Lti, Lei, Gti, Gei, Ltu, Leu, Gtu, Geu, Load1, Load2, Load4, Store1, Store2, Store4, Arg, BlockCopy, Sex8, Sex16, Negi, Add, Sub, Divi, Divu, Modi, Modu, Muli, Mulu, Band, Bor, Bxor, Bcom, Lsh, Rshi, Rshu}
 
@@ -112,3 +112,18 @@ is_branch Leu = true
 is_branch Gtu = true
 is_branch Geu = true
 is_branch op = false
+
+-- the integer opcodes
+abbrev pub all_ops : List Op
+all_ops =
+    Ignore ∷ Break ∷ Enter ∷ Leave ∷ Call ∷ Push ∷ Pop ∷ Const ∷ Local ∷ Jump ∷ Eq ∷ Ne ∷ Lti ∷ Lei ∷ Gti ∷ Gei ∷ Ltu ∷ Leu ∷ Gtu ∷ Geu
+    ∷ Load1 ∷ Load2 ∷ Load4 ∷ Store1 ∷ Store2 ∷ Store4 ∷ Arg ∷ BlockCopy ∷ Sex8 ∷ Sex16 ∷ Negi ∷ Add ∷ Sub ∷ Divi ∷ Divu ∷ Modi ∷ Modu
+    ∷ Muli ∷ Mulu ∷ Band ∷ Bor ∷ Bxor ∷ Bcom ∷ Lsh ∷ Rshi ∷ Rshu ∷ []
+
+-- the integer opcode with this number
+abbrev pub op_numbered : ℕ → Option Op
+op_numbered n = find (λ op. number_of_op op == n) all_ops
+
+-- the numbers of floating-point opcodes
+abbrev pub is_float_number : ℕ → Bool
+is_float_number n = (nat_le 21 n && nat_le n 26) || (nat_le 53 n && nat_le n 59)

@@ -1,7 +1,6 @@
-//! Instructions and images.
+//! Instructions.
 #![tactic(auto)]
 
-pub mod image;
+pub mod decode;
 pub mod instr;
 pub mod op;
-pub mod write;

@@ -1,6 +1,6 @@
 //! Opcodes of the virtual machine.
 ghost use Rattle.std.specs.Prelude.{◌≡◌};
-ghost use Rattle.qv_ops.specs.Table.{number_of_op, width_of_op};
+ghost use Rattle.qv_ops.specs.Table.{number_of_op, width_of_op, op_numbered, is_branch, is_float_number};
 
 /// An integer opcode of the Quake III 1.32 interpreter, with its number.
 ///
@@ -111,6 +111,89 @@ pub fn number_of(op: Op) -> u8
     op as u8
 }
 
+/// The integer opcode with this number, and `None` for 0, for the numbers of floating-point opcodes
+/// and above 59.
+pub fn op_at(number: u8) -> Option<Op>
+    ensures { result ≡ op_numbered number }
+{
+    let op = match number {
+        1 => Op::Ignore,
+        2 => Op::Break,
+        3 => Op::Enter,
+        4 => Op::Leave,
+        5 => Op::Call,
+        6 => Op::Push,
+        7 => Op::Pop,
+        8 => Op::Const,
+        9 => Op::Local,
+        10 => Op::Jump,
+        11 => Op::Eq,
+        12 => Op::Ne,
+        13 => Op::Lti,
+        14 => Op::Lei,
+        15 => Op::Gti,
+        16 => Op::Gei,
+        17 => Op::Ltu,
+        18 => Op::Leu,
+        19 => Op::Gtu,
+        20 => Op::Geu,
+        27 => Op::Load1,
+        28 => Op::Load2,
+        29 => Op::Load4,
+        30 => Op::Store1,
+        31 => Op::Store2,
+        32 => Op::Store4,
+        33 => Op::Arg,
+        34 => Op::BlockCopy,
+        35 => Op::Sex8,
+        36 => Op::Sex16,
+        37 => Op::Negi,
+        38 => Op::Add,
+        39 => Op::Sub,
+        40 => Op::Divi,
+        41 => Op::Divu,
+        42 => Op::Modi,
+        43 => Op::Modu,
+        44 => Op::Muli,
+        45 => Op::Mulu,
+        46 => Op::Band,
+        47 => Op::Bor,
+        48 => Op::Bxor,
+        49 => Op::Bcom,
+        50 => Op::Lsh,
+        51 => Op::Rshi,
+        52 => Op::Rshu,
+        _ => return None,
+    };
+    Some(op)
+}
+
+// Whether an opcode with this number computes with floating-point numbers.
+pub(crate) fn is_float(number: u8) -> bool
+    ensures { result ≡ is_float_number number }
+{
+    matches!(number, 21..=26 | 53..=59)
+}
+
+// Whether the opcode is a branch, which carries the number of an instruction.
+pub(crate) fn branches(op: Op) -> bool
+    ensures { result ≡ is_branch op }
+{
+    matches!(
+        op,
+        Op::Eq
+            | Op::Ne
+            | Op::Lti
+            | Op::Lei
+            | Op::Gti
+            | Op::Gei
+            | Op::Ltu
+            | Op::Leu
+            | Op::Gtu
+            | Op::Geu
+    )
+}
+
 /// How many bytes of operand an instruction with this opcode carries: 0, 1 or 4.
 pub fn width(op: Op) -> u32
     ensures { result ≡ width_of_op op }
@@ -192,6 +275,7 @@ mod tests {
         ];
         for (op, number, bytes) in table {
             assert_eq!(rt; number_of(op), number, "number of {op:?}");
+            assert_eq!(rt; op_at(number), Some(op), "opcode {number}");
             assert_eq!(rt; width(op), bytes, "width of {op:?}");
         }
     }

@@ -2,9 +2,9 @@
 ghost use Rattle.std.specs.Prelude.{◌+◌, ◌^◌, ◌<◌, ◌≤◌, IsTrue, length};
 ghost use Rattle.std.specs.List.{list_all};
 ghost use Rattle.qv_ops.specs.Code.{is_encodable, stays_within};
-ghost use Rattle.qv_ops.specs.Image.{padded_code};
+ghost use Rattle.qv_image.specs.Image.{padded_code};
 
-use crate::instr::Instr;
+use qv_ops::instr::Instr;
 
 /// A module's image: its code, and what its block of memory holds at first.
 ///

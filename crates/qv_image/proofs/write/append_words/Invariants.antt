@@ -1,7 +1,7 @@
 use Rattle.std.proofs.Common.{◌≡◌, ◌++◌, take}
 use Rattle.std.specs.List.{flat_map}
 use Rattle.qv_ops.specs.Code.{word_bytes}
-use Rattle.qv_ops.proofs.write.append_words.Given as goal
+use Rattle.qv_image.proofs.write.append_words.Given as goal
 
 abbrev pub invariant-loop-word : goal.invariant-loop-word
 invariant-loop-word l = l.out.items ≡ l.initial.out.items ++ flat_map word_bytes (take l.word-index l.words)

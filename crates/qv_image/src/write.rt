@@ -2,13 +2,14 @@
 ghost use Rattle.std.specs.Prelude.{◌≡◌, IfOk, ◌++◌, OnOk, IsTrue, ◌<◌, All, flat_map};
 ghost use Rattle.std.specs.List.{list_all};
 ghost use Rattle.qv_ops.specs.Code.{code_bytes, is_encodable, word_bytes};
-ghost use Rattle.qv_ops.specs.Image.{padding, file_bytes, IsImage};
-ghost use Rattle.qv_ops.specs.Shown.{qvm_of};
+ghost use Rattle.qv_image.specs.Image.{padding, file_bytes, IsImage};
+ghost use Rattle.qv_image.specs.Read.{read_bytes};
+ghost use Rattle.qv_image.specs.Shown.{qvm_of};
 
 use crate::image::Image;
-use crate::instr::{Instr, encode};
 use byteorder::{ByteOrder, LittleEndian};
 use qv_base::NoMemory;
+use qv_ops::instr::{Instr, encode};
 use std::alloc::Global;
 
 // The first word of an image file.
@@ -28,8 +29,9 @@ const HEADER_LEN: u32 = 32;
 pub fn write_image(alloc: Global, image: &Image) -> Result<Vec<u8>, NoMemory>
     ensures bytes { IfOk result (λ file. file.items ≡ file_bytes (qvm_of image.now)) }
 
-    // The bytes are those of an image within its limits.
+    // The bytes are those of an image within its limits, and are read as this image.
     ensures image { IfOk result (λ _. IsImage (qvm_of image.now)) }
+    ensures read { IfOk result (λ file. read_bytes file.items ≡ Ok (qvm_of image.now)) }
 {
     let mut code = encode_all(alloc, &image.code)?;
     pad(&mut code)?;
@@ -98,7 +100,8 @@ fn pad(code: &mut Vec<u8>) -> Result<(), NoMemory>
 #[cfg(test)]
 mod tests {
     use super::*;
-    use crate::op::Op;
+    use crate::sample::FILE;
+    use qv_ops::op::Op;
     use std::test::Fail;
 
     #[test]
@@ -121,15 +124,7 @@ mod tests {
             lit: Vec::new(alloc),
             bss: 65536,
         };
-        let expected = [
-            0x44, 0x14, 0x72, 0x12, 8, 0, 0, 0, 32, 0, 0, 0, 28, 0, 0, 0, // magic to code length
-            60, 0, 0, 0, 4, 0, 0, 0, 0, 0, 0, 0, 0, 0, 1, 0, // data offset to bss length
-            3, 8, 0, 0, 0, 9, 16, 0, 0, 0, 29, // ENTER 8, LOCAL 16, LOAD4
-            8, 1, 0, 0, 0, 38, 4, 8, 0, 0, 0, // CONST 1, ADD, LEAVE 8
-            6, 4, 8, 0, 0, 0, // PUSH, LEAVE 8
-            0, 0, 0, 0, // data
-        ];
-        assert_eq!(rt; write_image(alloc, &image)?.as_slice(), expected.as_slice());
+        assert_eq!(rt; write_image(alloc, &image)?.as_slice(), FILE.as_slice());
         Ok(())
     }
 }

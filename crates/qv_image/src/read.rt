@@ -1,0 +1,195 @@
+//! Images read from files.
+ghost use Rattle.std.specs.Prelude.{◌≡◌, ◌+◌, ◌<◌, ◌≤◌, All, IfErr, IfOk, OnOk, length};
+ghost use Rattle.qv_image.specs.Image.{IsImage};
+ghost use Rattle.qv_image.specs.Read.{HasParts, IsOfHeader, IsRead, check_lengths, check_parts, is_negative, part_of, read_bytes};
+ghost use Rattle.qv_image.specs.Shown.{qvm_of};
+
+use crate::fault::ImageFault;
+use crate::header::Header;
+use crate::image::Image;
+use qv_base::NoMemory;
+use qv_ops::decode::decode_all;
+use std::alloc::Global;
+
+// The first word of an image file.
+const MAGIC: u32 = 0x1272_1444;
+
+// The most bytes that code and that data, literals and zero bytes together may take.
+const MAX_CODE_LEN: u32 = 1 << 27;
+
+const MAX_BLOCK_LEN: u64 = 1 << 26;
+
+/// The image in a file's bytes, as the Quake III 1.32 interpreter reads it.
+///
+/// Bytes that belong to no part are allowed, and parts may overlap.
+///
+/// # Errors
+///
+/// The first fault of the file, in the order of `ImageFault`'s variants. `NoMemory` where there is
+/// no room for the image.
+pub fn read_image(alloc: Global, bytes: &[u8]) -> Result<Image, ImageFault>
+    ensures read { IsRead (read_bytes bytes.now) result }
+
+    // What is read is an image within its limits.
+    ensures image { IfOk result (λ image. IsImage (qvm_of image)) }
+{
+    if bytes.len() < 32 {
+        return Err(ImageFault::HeaderShort(bytes.len() as u32));
+    }
+    let header = Header::read(bytes);
+    lengths_checked(&header)?;
+    parts_checked(bytes.len(), &header)?;
+    let code = part(bytes, header.code_offset as usize, header.code_len as usize);
+    let code = decode_all(alloc, code, header.count)?;
+    let data_offset = header.data_offset as usize;
+    let data_len = header.data_len as usize;
+    let data_part = copied(alloc, part(bytes, data_offset, data_len))?;
+    let lit = copied(
+        alloc,
+        part(bytes, data_offset + data_len, header.lit_len as usize),
+    )?;
+    Ok(Image {
+        code,
+        data_part,
+        lit,
+        bss: header.bss_len,
+    })
+}
+
+// The tests of the magic and of the signs of data, literals and zero bytes.
+fn lengths_checked(header: &Header) -> Result<(), ImageFault>
+    ensures checked { result ≡ check_lengths header.now }
+    ensures fault { IfErr result IsOfHeader }
+{
+    if header.magic != MAGIC {
+        return Err(ImageFault::BadMagic(header.magic));
+    }
+    if negative(header.data_len) {
+        return Err(ImageFault::NegativeLength(5));
+    }
+    if negative(header.lit_len) {
+        return Err(ImageFault::NegativeLength(6));
+    }
+    if negative(header.bss_len) {
+        return Err(ImageFault::NegativeLength(7));
+    }
+    Ok(())
+}
+
+// The tests of the parts' sizes and places, in a file of `len` bytes.
+fn parts_checked(len: usize, header: &Header) -> Result<(), ImageFault>
+    ensures checked { result ≡ check_parts len header.now }
+    ensures fault { IfErr result IsOfHeader }
+    ensures parts { OnOk result (HasParts len header.now) }
+{
+    if negative(header.code_len) || header.code_len == 0 || header.count == 0 {
+        return Err(ImageFault::NoCode);
+    }
+    if header.code_len > MAX_CODE_LEN {
+        return Err(ImageFault::CodeTooLarge(header.code_len));
+    }
+    if header.code_offset as usize + header.code_len as usize > len {
+        return Err(ImageFault::CodeOutside);
+    }
+    if header.data_offset as usize + header.data_len as usize + header.lit_len as usize > len {
+        return Err(ImageFault::DataOutside);
+    }
+    let total = u64::from(header.data_len) + u64::from(header.lit_len) + u64::from(header.bss_len);
+    if total > MAX_BLOCK_LEN {
+        return Err(ImageFault::DataTooLarge(total));
+    }
+    Ok(())
+}
+
+// Whether a word is negative, read as signed.
+fn negative(word: u32) -> bool
+    ensures { result ≡ is_negative word }
+{
+    word.cast_signed() < 0
+}
+
+// The bytes of a part.
+fn part(bytes: &[u8], offset: usize, len: usize) -> &[u8]
+    requires { offset + len ≤ length bytes.now }
+    ensures part { result.now ≡ part_of bytes.now offset len }
+    ensures len { length result.now ≡ len }
+{
+    &bytes[offset..][..len]
+}
+
+// A part's bytes as an image holds them.
+fn copied(alloc: Global, part: &[u8]) -> Result<Vec<u8>, NoMemory>
+    ensures items { IfOk result (λ copy. copy.items ≡ part.now) }
+    ensures bytes { IfOk result (λ copy. All (λ b. b < 256) copy.items) }
+{
+    Ok(part.to_vec(alloc)?)
+}
+
+#[cfg(test)]
+mod tests {
+    use super::*;
+    use crate::sample::FILE;
+    use crate::write::write_image;
+    use qv_ops::decode::CodeFault;
+    use std::test::Fail;
+
+    #[test]
+    fn reads_what_was_written(rt: HostRuntime) -> Result<(), Fail> {
+        let alloc = rt.alloc();
+        let image = read_image(alloc, &FILE)?;
+        assert_eq!(rt; write_image(alloc, &image)?.as_slice(), FILE.as_slice());
+        let mut longer = FILE.as_slice().to_vec(alloc)?;
+        longer.extend_from_slice(&[1, 2, 3, 4])?;
+        let image = read_image(alloc, &longer)?;
+        assert_eq!(rt; write_image(alloc, &image)?.as_slice(), FILE.as_slice());
+        Ok(())
+    }
+
+    #[test]
+    fn tells_where_the_file_is_cut(rt: HostRuntime) {
+        let table = [
+            (0, ImageFault::HeaderShort(0)),
+            (31, ImageFault::HeaderShort(31)),
+            (32, ImageFault::CodeOutside),
+            (59, ImageFault::CodeOutside),
+            (60, ImageFault::DataOutside),
+            (63, ImageFault::DataOutside),
+        ];
+        for (len, fault) in table {
+            assert!(rt; len < FILE.len());
+            assert_eq!(rt;
+                read_image(rt.alloc(), &FILE[..len]).err(),
+                Some(fault),
+                "{len}"
+            );
+        }
+    }
+
+    #[test]
+    fn tells_the_first_fault(rt: HostRuntime) {
+        let table = [
+            (0, 0x45, ImageFault::BadMagic(309_466_181)),
+            (23, 0x80, ImageFault::NegativeLength(5)),
+            (27, 0x80, ImageFault::NegativeLength(6)),
+            (31, 0xff, ImageFault::NegativeLength(7)),
+            (4, 0, ImageFault::NoCode),
+            (12, 0, ImageFault::NoCode),
+            (15, 0xff, ImageFault::NoCode),
+            (15, 0x10, ImageFault::CodeTooLarge(0x1000_001c)),
+            (31, 4, ImageFault::DataTooLarge(0x0401_0004)),
+            (4, 9, ImageFault::Code(CodeFault::CodeShort { at: 8 })),
+            (4, 7, ImageFault::Code(CodeFault::TailLong { left: 5 })),
+            (
+                48,
+                56,
+                ImageFault::Code(CodeFault::FloatOpcode { at: 4, op: 56 }),
+            ),
+        ];
+        for (at, byte, fault) in table {
+            assert!(rt; at < FILE.len());
+            let mut file = FILE;
+            file[at] = byte;
+            assert_eq!(rt; read_image(rt.alloc(), &file).err(), Some(fault), "{at}");
+        }
+    }
+}
