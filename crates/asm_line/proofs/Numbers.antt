@@ -1,0 +1,84 @@
+-- Numbers written in decimal are read back.
+use Rattle.std.proofs.Common.{◌≡◌, ℕ, zero, suc, ◌-◌, ◌<◌, ◌≤◌, ◌^◌, Bool, true, false, ◌&&◌, List, [], ◌∷◌, length, refl, ap, ◌∙◌, arith, rules}
+use Rattle.std.specs.Prelude.{IsTrue, Some, None, option_map, if◌then◌else◌, nat_le, nat_lt, not, ◌==◌}
+use Rattle.std.specs.List.{list_all}
+use Rattle.std.specs.Str.{all_ascii_digits}
+use Rattle.std.specs.Fmt.{decimal}
+use Rattle.std.proofs.lemmas.Bool.Decides.{nat_tests}
+use Rattle.std.proofs.lemmas.Str.Parse.{IsNumeralModel, numerals_by_fold}
+use Rattle.std.proofs.lemmas.Fmt.{decimal_nonempty, digits_decimal, digits_value-decimal}
+use Rattle.qv_base.specs.Decimal.{is_digit, decimal_from, decimal_up_to}
+use Rattle.qv_ops.specs.Code.{fits_width}
+use Rattle.qv_base.specs.Word.{negated}
+use Rattle.asm_line.specs.Operand.{number_of}
+use Rattle.asm_line.specs.Text.{is_word_byte}
+
+own : IsNumeralModel (λ ds. all_ascii_digits ds ≡ true) (decimal_from 0)
+own = numerals_by_fold _ (search rules) decimal_from (search rules)
+
+first_is : (c : ℕ) (cs : List ℕ) → all_ascii_digits (c ∷ cs) ≡ true → (is_digit c ≡ true) × (all_ascii_digits cs ≡ true)
+first_is c cs a = grind (arith, nat_tests)
+
+and_true : (a b : Bool) → a ≡ true → b ≡ true → (a && b) ≡ true
+and_true a b h k = ap (λ x. x && b) h ∙ k
+
+all_digits : (cs : List ℕ) → all_ascii_digits cs ≡ true → list_all is_digit cs ≡ true
+all_digits [] a = refl
+all_digits (c ∷ cs) a =
+    let k : (is_digit c ≡ true) × (all_ascii_digits cs ≡ true) = first_is c cs a in
+    and_true (is_digit c) (list_all is_digit cs) k.0 (all_digits cs k.1)
+
+-- a digit passes each test that holds for the characters 0 to 9
+digits_pass : (test : ℕ → Bool) → ((c : ℕ) → is_digit c ≡ true → test c ≡ true) → (cs : List ℕ) → all_ascii_digits cs ≡ true → list_all test cs ≡ true
+digits_pass test pass [] a = refl
+digits_pass test pass (c ∷ cs) a =
+    let k : (is_digit c ≡ true) × (all_ascii_digits cs ≡ true) = first_is c cs a in
+    and_true (test c) (list_all test cs) (pass c k.0) (digits_pass test pass cs k.1)
+
+-- the digits of a number that 64 bits hold
+pub decimal_digits : (n : ℕ) → n < 2 ^ 64 → IsTrue (list_all is_digit (decimal n))
+decimal_digits n h = digits_pass is_digit (λ c d. d) (decimal n) (digits_decimal own n h)
+
+-- they are bytes of a word, and none is a line feed
+pub decimal_word : (n : ℕ) → n < 2 ^ 64 → IsTrue (list_all is_word_byte (decimal n))
+decimal_word n h = digits_pass is_word_byte (λ c d. grind (arith, nat_tests)) (decimal n) (digits_decimal own n h)
+
+pub decimal_no_line_feed : (n : ℕ) → n < 2 ^ 64 → IsTrue (list_all (λ b. not (b == 10)) (decimal n))
+decimal_no_line_feed n h = digits_pass (λ b. not (b == 10)) (λ c d. grind (arith, nat_tests)) (decimal n) (digits_decimal own n h)
+
+pub decimal_some : (n : ℕ) → n < 2 ^ 64 → 0 < length (decimal n)
+decimal_some = decimal_nonempty
+
+no_minus : (c : ℕ) → is_digit c ≡ true → (c == 45) ≡ false
+no_minus c d = grind (arith, nat_tests)
+
+-- digits are a number without a sign
+unsigned : (ds : List ℕ) → 0 < length ds → all_ascii_digits ds ≡ true → number_of ds ≡ decimal_up_to (2 ^ 32 - 1) ds
+unsigned [] some a = absurd (omega arith)
+unsigned (c ∷ cs) some a =
+    ap (λ k. if k then option_map negated (decimal_up_to (2 ^ 31) cs) else decimal_up_to (2 ^ 32 - 1) (c ∷ cs)) (no_minus c (first_is c cs a).0)
+
+is_positive : (n : ℕ) → 0 < n → nat_lt 0 n ≡ true
+is_positive n h = grind (arith, nat_tests)
+
+within : (n m : ℕ) → n ≤ m → nat_le n m ≡ true
+within n m h = grind (arith, nat_tests)
+
+three_true : (a b c : Bool) (n : ℕ) → a ≡ true → b ≡ true → c ≡ true → (if a && b && c then Some n else None) ≡ Some n
+three_true a b c n ha hb hc = rw (ha, hb, hc) refl
+
+-- a word written in decimal is read back
+pub number_of-decimal : (n : ℕ) → n < 2 ^ 32 → number_of (decimal n) ≡ Some n
+number_of-decimal n h =
+    let big : n < 2 ^ 64 = omega arith in
+    let value : decimal_from 0 (decimal n) ≡ n = digits_value-decimal own n big in
+    let small : decimal_from 0 (decimal n) ≤ 2 ^ 32 - 1 = omega arith in
+    unsigned (decimal n) (decimal_nonempty n big) (digits_decimal own n big)
+    ∙ three_true (nat_lt 0 (length (decimal n))) (list_all is_digit (decimal n)) (nat_le (decimal_from 0 (decimal n)) (2 ^ 32 - 1)) (decimal_from 0 (decimal n)) (is_positive (length (decimal n)) (decimal_nonempty n big)) (decimal_digits n big) (within (decimal_from 0 (decimal n)) (2 ^ 32 - 1) small)
+    ∙ ap (λ x. Some x) value
+
+-- 0 fits each width
+pub zero_fits : (width : ℕ) → IsTrue (fits_width width 0)
+zero_fits zero = refl
+zero_fits (suc zero) = refl
+zero_fits (suc (suc width)) = refl

@@ -1,0 +1,4 @@
+pub mod Table
+pub mod Counts
+pub mod Limits
+pub mod FirstForm

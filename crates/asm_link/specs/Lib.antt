@@ -1,0 +1,9 @@
+pub mod Spot
+pub mod State
+pub mod Names
+pub mod Faults
+pub mod Image
+pub mod Link
+pub mod FirstForm
+pub mod Table
+pub mod Shown

@@ -1,0 +1,50 @@
+-- The lines of all files, one after the other.
+use Rattle.std.specs.Prelude.{ℕ, ◌+◌, Bool, true, List, [], ◌∷◌, Option, Some, None}
+use Rattle.qv_base.specs.Place.{capped}
+use Rattle.asm_line.specs.declared.line.LineFault.{LineFault}
+use Rattle.asm_line.specs.declared.line.LineFault.TheVariants.{UnknownWord}
+use Rattle.asm_line.specs.FirstForm.{first_row}
+use Rattle.asm_line.specs.Row.{Row, is_carried}
+use Rattle.asm_line.specs.Text.{lines_of, words_of}
+
+-- what stands at a place of the files: a line that can be read, one that can't, or the end of a file
+pub data Entry : Type 0 where
+  Read : Row → Entry
+  Unread : LineFault → Entry
+  FileEnd : Entry
+
+pub record Spot : Type 0 where
+  -- the file's number, from 0
+  pub file : ℕ
+  -- the line's number, from 1
+  pub line : ℕ
+  pub entry : Entry
+
+-- a line that isn't of the first form counts as one that can't be read: such files aren't served yet
+abbrev pub entry_of_row : Option Row → Entry
+entry_of_row None = Unread UnknownWord
+entry_of_row (Some row) = Read row
+
+abbrev pub entry_of_line : List ℕ → Entry
+entry_of_line line = entry_of_row (first_row (words_of line))
+
+-- the lines of a file from this number on, its end, and then the rest
+abbrev pub file_spots : ℕ → ℕ → List (List ℕ) → List Spot → List Spot
+file_spots file number [] rest = record { file = file; line = number; entry = FileEnd } ∷ rest
+file_spots file number (line ∷ lines) rest = record { file = file; line = number; entry = entry_of_line line } ∷ file_spots file (capped (number + 1)) lines rest
+
+-- the files that have these texts, from this number on
+abbrev pub spots_from : ℕ → List (List ℕ) → List Spot
+spots_from file [] = []
+spots_from file (text ∷ texts) = file_spots file 1 (lines_of text) (spots_from (file + 1) texts)
+
+abbrev pub spots_of : List (List ℕ) → List Spot
+spots_of texts = spots_from 0 texts
+
+-- the operand of a line that can be read is one that its instruction carries
+abbrev pub carries_entry : Entry → Bool
+carries_entry (Read row) = is_carried row
+carries_entry entry = true
+
+abbrev pub carries : Spot → Bool
+carries spot = carries_entry spot.entry

@@ -1,0 +1,59 @@
+// What names and expressions stand for.
+ghost use Rattle.std.specs.Prelude.{◌≡◌, ◌+◌, ◌<◌, ◌^◌, ◌%◌, map};
+ghost use Rattle.asm_line.specs.Shown.{expression_of};
+ghost use Rattle.asm_link.specs.Names.{known, number, base, value_of};
+ghost use Rattle.asm_link.specs.Shown.{spot_of, before_of};
+ghost use Rattle.asm_link.specs.State.{weight};
+
+use crate::state::{State, rounded};
+use crate::symbols::{Known, Place, find};
+use crate::whole::Whole;
+use asm_line::line::{AsmSegment, Value};
+
+/// What is known of a name in a file. None where no line defines it.
+#[tactic(auto, using(crate::proofs::Table::known_of_table))]
+pub fn known(whole: &Whole<'_>, file: u32, name: &[u8]) -> Option<Known>
+    ensures { result ≡ known (map spot_of whole.now.spots.now) file name.now }
+{
+    match find(&whole.symbols, file, name) {
+        Some(symbol) => Some(symbol.known),
+        None => None,
+    }
+}
+
+// The length of the segments before one.
+fn base(last: &State<'_>, segment: AsmSegment) -> u128
+    requires { weight (before_of last.now) < 2 ^ 126 }
+    ensures { result ≡ base segment (before_of last.now) }
+{
+    match segment {
+        AsmSegment::Code | AsmSegment::Data => 0,
+        AsmSegment::Lit => rounded(last.data_size),
+        AsmSegment::Bss => rounded(last.data_size) + rounded(last.lit_size),
+    }
+}
+
+// A place's number and an addend, as a word.
+fn word(last: &State<'_>, place: Place, add: u32) -> u32
+    requires { weight (before_of last.now) < 2 ^ 126 }
+    ensures { result ≡ (number (before_of last.now) place + add) % 2 ^ 32 }
+{
+    let at = match place {
+        Place::Number(n) => n % (1 << 32),
+        Place::In(segment, at) => base(last, segment) % (1 << 32) + at % (1 << 32),
+    };
+    ((at + u128::from(add)) % (1 << 32)) as u32
+}
+
+/// The value of an expression in a file. None where no line defines its name.
+pub fn value_of(whole: &Whole<'_>, file: u32, value: &Value<'_>) -> Option<u32>
+    ensures { result ≡ value_of (map spot_of whole.now.spots.now) file (expression_of value.now) }
+{
+    match value.name {
+        None => Some(value.add),
+        Some(name) => match known(whole, file, name) {
+            None => None,
+            Some(known) => Some(word(&whole.last, known.place, value.add)),
+        },
+    }
+}
