@@ -66,7 +66,7 @@ IsCame : Coming → Type 0
 IsCame Came = Unit {0}
 IsCame (Ended e) = ⊥
 
-came_not_ended : (e : Ending) → Came ≡ Ended e → ⊥
+pub came_not_ended : (e : Ending) → Came ≡ Ended e → ⊥
 unfolding IsCame
 came_not_ended e p = subst IsCame p tt
 

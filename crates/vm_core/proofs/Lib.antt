@@ -8,4 +8,7 @@ pub mod Loop
 pub mod CallLaws
 pub mod Goes
 pub mod Frame
+pub mod Replies
 pub mod Quiet
+pub mod ServedRuns
+pub mod Pieces

@@ -33,6 +33,14 @@ did_at code code2 table table2 s now result old new p q d =
     let Q : Table → Type 0 = λ x. Did (turn code2 x s) now old new result in
     subst P p (subst Q q d)
 
+-- a run of the same code over the same table
+pub ran_at : {code code2 : List Instr} {table table2 : Table} {n : ℕ} {s t : State} {a b : Outside} {close : Close} → code2 ≡ code → table2 ≡ table →
+    Ran (turn code2 table2) n s t a b close → Ran (turn code table) n s t a b close
+ran_at {code = code} {code2 = code2} {table = table} {table2 = table2} {n = n} {s = s} {t = t} {a = a} {b = b} {close = close} p q r =
+    let P : List Instr → Type 0 = λ x. Ran (turn x table) n s t a b close in
+    let Q : Table → Type 0 = λ x. Ran (turn code2 x) n s t a b close in
+    subst P p (subst Q q r)
+
 -- a plain step, which nothing outside sees
 pub halts_did : (t : Turn) (now : State) (told : Outside) (result : Option Stop) → Halts t now result → Did t now told told result
 halts_did t now told result h = inl (h, refl)

@@ -6,7 +6,7 @@ use Rattle.std.proofs.Math.Bool.{true-and, false-and}
 use Rattle.std.proofs.lemmas.Option.{same_Some, none-some}
 use Rattle.qv_ops.specs.declared.instr.Instr.{Instr}
 use Rattle.qv_ops.specs.declared.op.Op.{Op}
-use Rattle.qv_ops.specs.declared.op.Op.TheVariants.{Enter, Leave, Push, Const, Local, Load4, Add, Sub}
+use Rattle.qv_ops.specs.declared.op.Op.TheVariants.{Enter, Leave, Push, Const, Local, Jump, Load4, Add, Sub}
 use Rattle.qv_ops.specs.Table.{is_branch}
 use Rattle.qv_ops.specs.Code.{stays_within}
 use Rattle.vm_core.specs.Machine.{is_served}
@@ -28,6 +28,7 @@ no_branch Leave b h = grind arith
 no_branch Push b h = grind arith
 no_branch Const b h = grind arith
 no_branch Local b h = grind arith
+no_branch Jump b h = grind arith
 no_branch Load4 b h = grind arith
 no_branch Add b h = grind arith
 no_branch Sub b h = grind arith

@@ -5,7 +5,7 @@ use Rattle.std.proofs.lemmas.Bool.Decides.{nat_tests}
 use Rattle.std.proofs.lemmas.List.{length-replicate}
 use Rattle.std.proofs.Math.Nat.{pow-succ'}
 use Rattle.std.proofs.Math.Pow.{pow_mono}
-use Rattle.qv_ops.specs.Image.{Qvm}
+use Rattle.qv_image.specs.Image.{Qvm}
 use Rattle.vm_core.specs.Machine.{fresh_memory}
 use Rattle.vm_core.specs.Memory.{block_size, doubled, IsSize}
 

@@ -1,6 +1,6 @@
 -- Several calls of one module over one memory.
 use Rattle.std.specs.Prelude.{ℕ, List, [], ◌∷◌, ◌++◌}
-use Rattle.qv_ops.specs.Image.{Qvm}
+use Rattle.qv_image.specs.Image.{Qvm}
 use Rattle.qv_outside.specs.Event.{Event, Reply}
 use Rattle.qv_outside.specs.Hosts.{Table}
 use Rattle.vm_core.specs.Machine.{State, Turn, Ending, Stopped, End, runs, started, turn, fresh_memory}

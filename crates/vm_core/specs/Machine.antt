@@ -3,8 +3,8 @@ use Rattle.std.specs.Prelude.{ℕ, zero, suc, ◌+◌, ◌-◌, ◌^◌, Bool, t
 use Rattle.qv_base.specs.Word.{plus, minus}
 use Rattle.qv_ops.specs.declared.instr.Instr.{Instr}
 use Rattle.qv_ops.specs.declared.op.Op.{Op}
-use Rattle.qv_ops.specs.declared.op.Op.TheVariants.{Enter, Leave, Push, Const, Local, Load4, Add, Sub}
-use Rattle.qv_ops.specs.Image.{Qvm}
+use Rattle.qv_ops.specs.declared.op.Op.TheVariants.{Enter, Leave, Push, Const, Local, Jump, Load4, Add, Sub}
+use Rattle.qv_image.specs.Image.{Qvm}
 use Rattle.qv_outside.specs.Event.{Event, Reply}
 use Rattle.qv_outside.specs.Hosts.{Table}
 use Rattle.vm_core.specs.Memory.{load4, block_size, with_frame}
@@ -75,6 +75,11 @@ abbrev pub left : ℕ → ℕ → State → Turn
 left count v s = if nat_lt (length s.memory - 64) (s.program_stack + v) then Stops StackUnder s
     else gone_back count v (load4 s.memory (s.program_stack + v)) s
 
+-- JUMP goes to the instruction whose number is the top word
+abbrev pub jumped : ℕ → State → List ℕ → Turn
+jumped count s [] = Stops OperandUnder s
+jumped count s (t ∷ rest) = if nat_lt t count then Goes (record { memory = s.memory; program_stack = s.program_stack; operands = rest; next = t }) else Stops (JumpOut t) s
+
 -- one instruction, of an opcode and its operand v, among count; one row for each opcode that is served
 abbrev pub act : Table → ℕ → Op → ℕ → State → Turn
 act table count Enter v s = entered v s
@@ -82,6 +87,7 @@ act table count Leave v s = left count v s
 act table count Push v s = pushed s s.operands 0
 act table count Const v s = pushed s s.operands v
 act table count Local v s = pushed s s.operands (plus s.program_stack v)
+act table count Jump v s = jumped count s s.operands
 act table count Load4 v s = on_top s s.operands (load4 s.memory)
 act table count Add v s = on_two s s.operands plus
 act table count Sub v s = on_two s s.operands minus
@@ -94,6 +100,7 @@ is_served Leave = true
 is_served Push = true
 is_served Const = true
 is_served Local = true
+is_served Jump = true
 is_served Load4 = true
 is_served Add = true
 is_served Sub = true

@@ -3,6 +3,7 @@
 #![tactic(auto)]
 
 mod block;
+pub mod instructions;
 pub mod module;
 mod running;
 mod stack;

@@ -1,6 +1,6 @@
 // Loading, starting and running a module.
-ghost use Rattle.std.specs.Prelude.{◌≡◌, ◌≢◌, IsTrue, ◌↔◌, ◌≤◌, IfOk, true, false};
-ghost use Rattle.qv_ops.specs.Shown.{qvm_of};
+ghost use Rattle.std.specs.Prelude.{◌≡◌, ◌≢◌, IsTrue, ◌↔◌, ◌≤◌, IfOk, true, false, sum};
+ghost use Rattle.qv_image.specs.Shown.{qvm_of};
 ghost use Rattle.qv_outside.specs.Causes.{Rose};
 ghost use Rattle.qv_outside.specs.Hosts.{Table};
 ghost use Rattle.vm_core.specs.Machine.{turn, started, fresh_memory};
@@ -13,7 +13,7 @@ use crate::stack::empty;
 use crate::step::step;
 use crate::stop::Stop;
 use qv_base::NoMemory;
-use qv_ops::image::Image;
+use qv_image::image::Image;
 use qv_outside::host::Host;
 use qv_outside::sink::Sink;
 use std::alloc::Global;
@@ -97,6 +97,35 @@ impl Module {
         self.registers = registers;
         self.ready = matches!(stop, Stop::Budget);
         stop
+    }
+
+    /// Runs with each budget in order, as long as it is ready, and gives the last stop (`Stop::Budget`
+    /// where there is no budget). In all it does what one run with the sum of the budgets does.
+    pub fn run_in_pieces<H: Host, O: Sink>(
+        &mut self,
+        budgets: &[u64],
+        host: &mut H,
+        out: &mut O,
+    ) -> Stop
+        requires ready { ready_of self.old ≡ true }
+        requires served { IsTrue (all_served (code_of self.old)) }
+        ensures ran { Ran (turn (code_of self.old) (H.table host.old)) (sum budgets.now) (state_of self.old) (state_of self.new) (outside (H.asked host.old) (H.replied host.old) (O.written out.old)) (outside (H.asked host.new) (H.replied host.new) (O.written out.new)) (close_of result) }
+        ensures code { code_of self.new ≡ code_of self.old }
+        ensures ready { IsTrue (ready_of self.new) ↔ (result ≡ Stop.Budget) }
+        ensures kept { H.kept host.new ≡ H.kept host.old }
+        ensures table { H.table host.new ≡ H.table host.old }
+        ensures host_later { H.faults host.old ≤ H.faults host.new }
+        ensures out_later { O.faults out.old ≤ O.faults out.new }
+        ensures host_fault { result ≡ Stop.HostFault → Rose (H.faults host.old) (H.faults host.new) }
+        ensures out_fault { result ≡ Stop.OutFault → Rose (O.faults out.old) (O.faults out.new) }
+    {
+        for &budget in budgets {
+            let stop = self.run(budget, host, out);
+            if !self.is_ready() {
+                return stop;
+            }
+        }
+        Stop::Budget
     }
 }
 

@@ -3,7 +3,7 @@ ghost use Rattle.std.specs.Prelude.{◌≡◌, ◌<◌, IsTrue, length, slice_ge
 ghost use Rattle.qv_base.specs.Word.{plus, minus};
 ghost use Rattle.qv_outside.specs.Hosts.{Table};
 ghost use Rattle.vm_core.specs.Memory.{load4};
-ghost use Rattle.vm_core.specs.Machine.{turn, act, is_served, entered, left, pushed, on_top, on_two};
+ghost use Rattle.vm_core.specs.Machine.{turn, act, is_served, entered, left, jumped, pushed, on_top, on_two};
 ghost use Rattle.vm_core.specs.Module.{code_of, state_at, operands_at, ready_of, all_served, IsTurn};
 
 use crate::module::{Module, Registers};
@@ -50,6 +50,7 @@ fn act(m: &mut Module, r: &mut Registers, instr: Instr) -> Option<Stop>
         Op::Push => push(m, r, 0),
         Op::Const => push(m, r, instr.operand),
         Op::Local => push(m, r, word::add(r.program_stack, instr.operand)),
+        Op::Jump => jump(m, r),
         Op::Load4 => load_4(m, r),
         Op::Add => add(m, r),
         Op::Sub => sub(m, r),
@@ -97,6 +98,25 @@ fn leave(m: &mut Module, r: &mut Registers, size: u32) -> Option<Stop>
     }
     r.program_stack = place;
     r.next = back;
+    None
+}
+
+// JUMP: goes to the instruction whose number is the top word.
+fn jump(m: &mut Module, r: &mut Registers) -> Option<Stop>
+    requires { r.old.next < length (code_of m.old) }
+    ensures step { IsTurn (jumped (length (code_of m.old)) (state_at m.old r.old) (operands_at m.old r.old)) m.new r.new result }
+    ensures code { code_of m.new ≡ code_of m.old }
+    ensures ready { ready_of m.new ≡ ready_of m.old }
+{
+    if !holds(&m.words, r.top, 1) {
+        return Some(Stop::OperandUnder);
+    }
+    let place = word_at(&m.words, r.top);
+    if place as usize >= m.code.len() {
+        return Some(Stop::JumpOut(place));
+    }
+    r.top += 1;
+    r.next = place;
     None
 }
 

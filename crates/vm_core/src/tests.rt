@@ -2,13 +2,13 @@
 ghost use Rattle.std.specs.Prelude.{◌≡◌, ◌<◌, ◌≤◌, IsTrue, IfOk, length};
 ghost use Rattle.std.specs.List.{list_all};
 ghost use Rattle.qv_ops.specs.Code.{is_encodable, stays_within};
-ghost use Rattle.vm_core.specs.Machine.{is_served};
 ghost use Rattle.vm_core.specs.Module.{code_of, all_served};
 
+use crate::instructions::all_served;
 use crate::module::Module;
 use crate::stop::Stop;
 use qv_base::NoMemory;
-use qv_ops::image::Image;
+use qv_image::image::Image;
 use qv_ops::instr::Instr;
 use qv_ops::op::{Op, width};
 use qv_outside::fixed_host::FixedHost;
@@ -41,25 +41,10 @@ fn is_encodable(instr: Instr) -> bool
     }
 }
 
-fn is_served(instr: Instr) -> bool
-    ensures { result ≡ is_served instr.op }
-{
-    matches!(
-        instr.op,
-        Op::Enter | Op::Leave | Op::Push | Op::Const | Op::Local | Op::Load4 | Op::Add | Op::Sub
-    )
-}
-
 fn all_encodable(code: &[Instr]) -> bool
     ensures { result ≡ list_all is_encodable code.now }
 {
     code.iter().all(|instr| is_encodable(*instr))
-}
-
-fn all_served(code: &[Instr]) -> bool
-    ensures { result ≡ all_served code.now }
-{
-    code.iter().all(|instr| is_served(*instr))
 }
 
 // An image of this code. Its block begins with the words 1, 9 and 0x0807_0605, the last of them from
@@ -139,6 +124,21 @@ fn ends_as_the_table_says(rt: HostRuntime) -> Result<(), Fail> {
             Stop::Returned(0x0807_0605),
         ),
         (&[(Op::Enter, 64), (Op::Leave, 4)], 100, 9, Stop::JumpOut(9)),
+        (&[(Op::Const, 9), (Op::Jump, 0)], 65536, 9, Stop::JumpOut(9)),
+        (&[(Op::Const, 2), (Op::Jump, 0)], 65536, 9, Stop::JumpOut(2)),
+        (
+            &[
+                (Op::Const, 42),
+                (Op::Const, 4),
+                (Op::Jump, 0),
+                (Op::Leave, 4),
+                (Op::Leave, 0),
+            ],
+            65536,
+            9,
+            Stop::Returned(42),
+        ),
+        (&[(Op::Jump, 0)], 65536, 9, Stop::OperandUnder),
         (&[(Op::Leave, 0)], 65536, 9, Stop::OperandUnder),
         (&[(Op::Add, 0)], 65536, 9, Stop::OperandUnder),
         (&[(Op::Enter, 65473)], 65536, 9, Stop::StackOver),
@@ -149,6 +149,7 @@ fn ends_as_the_table_says(rt: HostRuntime) -> Result<(), Fail> {
         (&pushes[..256], 65536, 256, Stop::Budget),
         (&pushes, 65536, 7, Stop::Budget),
         (&pushes, 65536, 0, Stop::Budget),
+        (&[(Op::Const, 0), (Op::Jump, 0)], 65536, 7, Stop::Budget),
     ];
     for (code, bss, n, stop) in rows {
         let mut module = load(&rt, alloc, code, bss)?;
@@ -174,5 +175,40 @@ fn is_ready_from_its_start_to_its_end(rt: HostRuntime) -> Result<(), Fail> {
     module.start(&[9; 14]);
     assert_eq!(rt; module.run(6, &mut host, &mut out), Stop::Returned(10));
     assert!(rt; out.bytes().is_empty());
+    Ok(())
+}
+
+#[test]
+fn runs_in_pieces_as_in_one(rt: HostRuntime) -> Result<(), Fail> {
+    let alloc = rt.alloc();
+    let mut host = FixedHost::new(Vec::new(alloc), 0);
+    let mut out = MemSink::new(alloc, 0, Vec::new(alloc))?;
+    let pushes = [(Op::Push, 0); 257];
+    let rows = [
+        (
+            SUCCESSOR.as_slice(),
+            [3, 4, 5].as_slice(),
+            12,
+            Stop::Returned(42),
+        ),
+        (&SUCCESSOR, &[3, 2], 5, Stop::Budget),
+        (
+            &[(Op::Const, 0), (Op::Jump, 0)],
+            &[3, 4, 5],
+            12,
+            Stop::Budget,
+        ),
+        (&pushes, &[3, 4, 250], 257, Stop::OperandOver),
+        (&pushes, &[3, 4, 249], 256, Stop::Budget),
+        (&pushes, &[], 0, Stop::Budget),
+    ];
+    for (code, budgets, sum, stop) in rows {
+        let mut module = load(&rt, alloc, code, 65536)?;
+        module.start(&ARGS);
+        assert_eq!(rt; module.run_in_pieces(budgets, &mut host, &mut out), stop);
+        assert_eq!(rt; module.is_ready(), stop == Stop::Budget);
+        module.start(&ARGS);
+        assert_eq!(rt; module.run(sum, &mut host, &mut out), stop);
+    }
     Ok(())
 }

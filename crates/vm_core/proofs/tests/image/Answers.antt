@@ -1,5 +1,5 @@
 use Rattle.std.proofs.Common.{◌≤◌, length, rules, arith}
-use Rattle.qv_ops.proofs.Sizes.{length-padded_code-le}
+use Rattle.qv_image.proofs.Sizes.{length-padded_code-le}
 use Rattle.vm_core.proofs.Served.{stays_served}
 use Rattle.vm_core.proofs.tests.image.Goals as goal
 
