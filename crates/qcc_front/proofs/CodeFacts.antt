@@ -5,8 +5,8 @@ use Rattle.std.proofs.lemmas.List.Folds.{list_all-append}
 use Rattle.qv_ops.specs.declared.instr.Instr.{Instr}
 use Rattle.qv_ops.specs.declared.op.Op.TheVariants.{Enter, Leave, Push, Const, Local, Load4}
 use Rattle.qv_ops.specs.Code.{stays_within}
-use Rattle.qv_ops.specs.Image.{padded_code}
-use Rattle.qv_ops.proofs.Sizes.{length-padded_code-le}
+use Rattle.qv_image.specs.Image.{padded_code}
+use Rattle.qv_image.proofs.Sizes.{length-padded_code-le}
 use Rattle.vm_core.specs.Machine.{is_served}
 use Rattle.vm_core.specs.Module.{all_served}
 use Rattle.qcc_front.specs.declared.sum.Term.{Term}
@@ -15,7 +15,8 @@ use Rattle.qcc_front.specs.declared.sum.Sign.{Sign}
 use Rattle.qcc_front.specs.declared.sum.Sign.TheVariants.{Plus, Minus}
 use Rattle.qcc_front.specs.declared.sum.SignedTerm.{SignedTerm}
 use Rattle.qcc_front.specs.Sum.{Sum}
-use Rattle.qcc_front.specs.Translation.{instr, term_code, sign_op, signed_code, sum_code, end_code, unit_code}
+use Rattle.qasm_write.specs.Unit.{instr}
+use Rattle.qcc_front.proofs.UnitCode.{term_code, sign_op, signed_code, sum_code, end_code, unit_code}
 
 both : (a b : Bool) → a ≡ true → b ≡ true → (a && b) ≡ true
 both a b p q = ap (λ x. x && b) p ∙ q
@@ -62,11 +63,6 @@ pub unit_served : (e : Sum) → all_served (unit_code e) ≡ true
 unit_served e =
     unit_all (λ i. is_served i.op) (record { enter = λ n. refl; leave = λ n. refl; push = λ n. refl; number = λ n. refl; place = λ n. refl; load = λ n. refl; sign = elim [ Plus ↦ refl | Minus ↦ refl ] }) e
 
--- no instruction is a branch
-pub unit_within : (count : ℕ) (e : Sum) → list_all (stays_within count) (unit_code e) ≡ true
-unit_within count e =
-    unit_all (stays_within count) (record { enter = λ n. refl; leave = λ n. refl; push = λ n. refl; number = λ n. refl; place = λ n. refl; load = λ n. refl; sign = elim [ Plus ↦ refl | Minus ↦ refl ] }) e
-
 term_short : (t : Term) → length (term_code t) ≤ 2
 term_short Command = omega arith
 term_short (Number n) = omega arith
@@ -77,22 +73,3 @@ rest_short (t ∷ ts) = omega (arith, rest_short ts, term_short t.term, length-a
 
 pub unit_short : (e : Sum) → length (unit_code e) ≤ 3 * length e.rest + 6
 unit_short e = omega (arith, rest_short e.rest, term_short e.first, length-append (sum_code e) end_code, length-append (term_code e.first) (flat_map signed_code e.rest))
-
--- the facts that an image wants of its code
-pub record IsCode (code : List Instr) : Type 0 where
-  pub some_code : 0 < length code
-  pub count_fits : length code ≤ 2 ^ 27
-  pub code_fits : length (padded_code code) ≤ 2 ^ 27
-  pub within : list_all (stays_within (length code)) code ≡ true
-
-pub unit_is_code : (e : Sum) (code : List Instr) → code ≡ unit_code e → length e.rest < 200 → IsCode code
-unit_is_code e code is few =
-    let size : length code ≡ length (unit_code e) = ap length is in
-    let short = unit_short e in
-    let some : length (unit_code e) ≡ length (sum_code e ++ end_code) + 1 = omega arith in
-    record {
-      some_code = omega (arith, size, some);
-      count_fits = omega (arith, size, short, few);
-      code_fits = omega (arith, size, short, few, length-padded_code-le code);
-      within = ap (list_all (stays_within (length code))) is ∙ unit_within (length code) e;
-    }

@@ -1,7 +1,8 @@
 pub mod Tokens
 pub mod SignedTerms
+pub mod UnitCode
 pub mod SumRuns
 pub mod UnitRuns
 pub mod CodeFacts
-pub mod Following
+pub mod Assembling
 pub mod Returned

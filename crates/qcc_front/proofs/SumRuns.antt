@@ -14,7 +14,8 @@ use Rattle.qcc_front.specs.declared.sum.Sign.{Sign}
 use Rattle.qcc_front.specs.declared.sum.Sign.TheVariants.{Plus, Minus}
 use Rattle.qcc_front.specs.declared.sum.SignedTerm.{SignedTerm}
 use Rattle.qcc_front.specs.Sum.{Sum, term_value, combined, value_from, value}
-use Rattle.qcc_front.specs.Translation.{instr, term_code, sign_op, signed_code, sum_code}
+use Rattle.qasm_write.specs.Unit.{instr}
+use Rattle.qcc_front.proofs.UnitCode.{term_code, sign_op, signed_code, sum_code}
 
 module _ (code : List Instr) (table : Table) (memory : List ℕ) (p command : ℕ) (loads : load4 memory ((p + 16) % 2 ^ 32) ≡ command) where
   abbrev f : State → Turn

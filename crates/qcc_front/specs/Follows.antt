@@ -3,7 +3,7 @@
 use Rattle.std.specs.Prelude.{◌≡◌, ℕ, ◌+◌, ◌*◌, ◌<◌, ◌^◌, List, ◌++◌, length, All}
 use Rattle.qv_outside.specs.Event.{Event, Reply, IsReply}
 use Rattle.qv_outside.specs.Hosts.{Table}
-use Rattle.qv_ops.specs.Image.{Qvm}
+use Rattle.qv_image.specs.Image.{Qvm}
 use Rattle.vm_core.specs.Machine.{Going, Stopped, Asks as AsksFor}
 use Rattle.vm_core.specs.Calls.{CallsEnd, Coming, Came, Ended, image_run}
 use Rattle.vm_core.specs.declared.stop.Stop.TheVariants.{ModuleError as ErrorStop}

@@ -4,4 +4,5 @@ pub mod Sum
 pub mod FirstForm
 pub mod Token
 pub mod Translation
+pub mod Assembles
 pub mod Unit
