@@ -171,6 +171,9 @@ fn a_failure_is_told_and_passes(rt: HostRuntime) -> Result<(), Fail> {
 fn statuses_have_their_numbers(rt: HostRuntime) {
     for (status, number) in [
         (Status::Done, 0),
+        (Status::Assembly, 3),
+        (Status::Stopped, 5),
+        (Status::Budget, 6),
         (Status::Missing, 7),
         (Status::ReadFault, 8),
         (Status::WriteFault, 9),

@@ -4,6 +4,8 @@
 #[cfg(test)]
 mod call;
 #[cfg(test)]
+mod chain;
+#[cfg(test)]
 mod failures;
 #[cfg(test)]
 mod files;

@@ -1,5 +1,6 @@
 pub mod Padding
 pub mod Reading
-pub mod Building
-pub mod Calling
-pub mod Failing
+pub mod Working
+pub mod Playing
+pub mod Linking
+pub mod Answering

@@ -1,82 +1,135 @@
--- What holds after a call of the tool, by its status, where the files are told.
-use Rattle.std.specs.Prelude.{◌≡◌, ℕ, List, ◌++◌, codes, Option, Some, ◌⊎◌}
-use Rattle.qv_ops.specs.Image.{Qvm, IsImage, file_bytes}
+-- What holds after a command, and after a call of the tool, where the files are told.
+use Rattle.std.specs.Prelude.{◌≡◌, ℕ, ◌<◌, List, [], ◌∷◌, ◌++◌, codes, slice_index, Option, Some, ◌⊎◌}
+use Rattle.qv_image.specs.Image.{Qvm, IsImage, file_bytes}
 use Rattle.qv_outside.specs.Causes.{Rose}
-use Rattle.qv_outside.specs.FileMap.{FileMap, content, with_file, Torn}
+use Rattle.qv_outside.specs.FileMap.{FileMap, with_file, Torn}
+use Rattle.qv_outside.specs.Hosts.{Table}
 use Rattle.qv_outside.specs.Told.{Appends, AppendsPrefix}
-use Rattle.qcc_front.specs.FirstForm.{unit_of}
+use Rattle.vm_core.specs.Calls.{image_run}
+use Rattle.qcc_front.specs.Assembles.{Assembles}
 use Rattle.qcc_front.specs.Follows.{Follows}
-use Rattle.qcc_front.specs.Sum.{Sum, sum_run}
+use Rattle.qcc_front.specs.Sum.{Sum, sum_run, value}
 use Rattle.qv_tool.specs.declared.status.Status.{Status}
-use Rattle.qv_tool.specs.declared.status.Status.TheVariants.{Done, Missing, NotYet, ReadFault, WriteFault, NoMemory}
-use Rattle.qv_tool.specs.Verdict.{verdict, status_of, line, line_of}
-use Rattle.qv_tool.specs.Words.{Command, command_of}
+use Rattle.qv_tool.specs.declared.status.Status.TheVariants.{Done, Missing, NotYet, Assembly, Stopped, Budget, ReadFault, WriteFault, NoMemory}
+use Rattle.qv_tool.specs.Ending.{line, returned_line, budget_line, Tells}
+use Rattle.qv_tool.specs.Verdict.{Verdict, Unready, Absent, TooLong, Unlinked, Compiles, Links, Runs, Builds, Refusal, refusal_of, verdict, source_of}
+use Rattle.qv_tool.specs.Words.{Command}
 
--- the words name a unit of the first form that was held, and the image follows it
-pub record Compiles (words : List (List ℕ)) (old : FileMap) (command : Command) (image : Qvm) : Type 0 where
-  pub reads : command_of words ≡ Some command
-  pub source : List ℕ
-  pub held : content old command.unit ≡ Some source
-  pub sum : Sum
-  pub is_unit : unit_of source ≡ Some sum
+-- the file is that of an image that follows the unit
+pub record IsFollower (e : Sum) (bytes : List ℕ) : Type 0 where
+  pub image : Qvm
   pub is_image : IsImage image
-  pub follows : Follows (sum_run sum) image
+  pub follows : Follows (sum_run e) image
+  pub file : bytes ≡ file_bytes image
 
--- the image's name holds the whole file of an image that follows the unit; all else is as before
-pub record Built (words : List (List ℕ)) (old : FileMap) (new : Option FileMap) : Type 0 where
-  pub command : Command
-  pub image : Qvm
-  pub compiles : Compiles words old command image
-  pub written : new ≡ Some (with_file old command.image (file_bytes image))
+-- the file that a command writes: its name, and its whole bytes
+abbrev pub WritesFile : Verdict → List ℕ → List ℕ → Type 0
+WritesFile (Compiles text e) name bytes = (name ≡ text) × Assembles e bytes
+WritesFile (Links image z) name bytes = (name ≡ image) × (bytes ≡ file_bytes z)
+WritesFile (Builds steps args image e) name bytes = (name ≡ image) × IsFollower e bytes
+WritesFile verdict name bytes = ⊥
 
--- the image's name holds what it held, or a prefix of that file, and is the name that failed; all else
--- is as before
-pub record TornImage (words : List (List ℕ)) (old : FileMap) (new : Option FileMap) (failed : Option (List ℕ)) : Type 0 where
-  pub command : Command
-  pub image : Qvm
-  pub compiles : Compiles words old command image
+-- the command's file is written whole; all else is as before
+pub record Wrote (v : Verdict) (old : FileMap) (new : Option FileMap) : Type 0 where
+  pub name : List ℕ
+  pub bytes : List ℕ
+  pub writes : WritesFile v name bytes
+  pub held : new ≡ Some (with_file old name bytes)
+
+-- the write of the command's file failed: its name is the one that failed, and holds what it held or a
+-- prefix of the bytes; all else is as before
+pub record TornFile (v : Verdict) (old : FileMap) (new : Option FileMap) (failed : Option (List ℕ)) : Type 0 where
+  pub name : List ℕ
+  pub bytes : List ℕ
+  pub writes : WritesFile v name bytes
   pub files : FileMap
   pub held : new ≡ Some files
-  pub torn : Torn old files command.image (file_bytes image)
-  pub failed_is : failed ≡ Some command.image
+  pub torn : Torn old files name bytes
+  pub failed_is : failed ≡ Some name
 
--- the words name a unit whose read failed; the files are as before
-pub record Unread (words : List (List ℕ)) (old : FileMap) (new : Option FileMap) (failed : Option (List ℕ)) : Type 0 where
-  pub command : Command
-  pub reads : command_of words ≡ Some command
-  pub failed_is : failed ≡ Some command.unit
+-- the read of the command's file failed: its name is the one that failed; the files are as before
+pub record Unread (c : Option Command) (old : FileMap) (new : Option FileMap) (failed : Option (List ℕ)) : Type 0 where
+  pub name : List ℕ
+  pub source_is : source_of c ≡ Some name
+  pub failed_is : failed ≡ Some name
   pub held : new ≡ Some old
 
--- the status and the line are those of the verdict
-pub record IsVerdict (words : List (List ℕ)) (old : FileMap) (status : Status) (text : List ℕ) : Type 0 where
-  pub status_is : status ≡ status_of (verdict words old)
-  pub line_is : text ≡ line_of (verdict words old)
+-- a command that writes its file and is done
+pub record Finishes (v : Verdict) (old : FileMap) (new : Option FileMap) (status : Status) (text : List ℕ) : Type 0 where
+  pub status_is : status ≡ Done
+  pub line_is : text ≡ line (codes "done")
+  pub wrote : Wrote v old new
 
--- what the work of a command leaves, by the status that it reports with this line
-abbrev pub Reports : List (List ℕ) → FileMap → Option FileMap → Option (List ℕ) → List ℕ → Status → Type 0
-Reports words old new failed text Done = IsVerdict words old Done text × Built words old new
-Reports words old new failed text NotYet = IsVerdict words old NotYet text × (new ≡ Some old)
-Reports words old new failed text Missing = IsVerdict words old Missing text × (new ≡ Some old)
-Reports words old new failed text ReadFault = (unread : Unread words old new failed) × (text ≡ line (codes "read fault: " ++ unread.command.unit))
-Reports words old new failed text WriteFault = (torn : TornImage words old new failed) × (text ≡ line (codes "write fault: " ++ torn.command.image))
-Reports words old new failed text NoMemory = (text ≡ line (codes "no memory")) × ((new ≡ Some old) ⊎ Built words old new)
+-- an image that was read is called, over a host that answers the traps of this table; no file has changed
+pub record Plays (table : Table) (steps : ℕ) (args : List ℕ) (z : Qvm) (old : FileMap) (new : Option FileMap) (status : Status) (text : List ℕ) : Type 0 where
+  pub tells : Tells (image_run z table (args ∷ []) [] steps) status text
+  pub held : new ≡ Some old
 
--- the read of the unit failed: the line has its name
-pub record ReadFailed (words : List (List ℕ)) (old : FileMap) (new : Option FileMap) (failed : Option (List ℕ)) (before after : Option (List ℕ)) : Type 0 where
-  pub unread : Unread words old new failed
-  pub line_is : Appends before after (line (codes "read fault: " ++ unread.command.unit))
+-- the value of the unit's sum at the first word is told, or all steps are used, fewer than ten million
+abbrev pub TellsValue : Sum → List ℕ → ℕ → Status → List ℕ → Type 0
+TellsValue e args steps status text = ((status ≡ Done) × (text ≡ returned_line (value e (slice_index args 0)))) ⊎ ((status ≡ Budget) × (text ≡ budget_line) × (steps < 10000000))
 
--- the write of the image failed: the line has its name
-pub record WriteFailed (words : List (List ℕ)) (old : FileMap) (new : Option FileMap) (failed : Option (List ℕ)) (before after : Option (List ℕ)) : Type 0 where
-  pub torn : TornImage words old new failed
-  pub line_is : Appends before after (line (codes "write fault: " ++ torn.command.image))
+-- the file of an image that follows the unit is written, and this image is called; all else is as before
+pub record BuildsAndPlays (table : Table) (steps : ℕ) (args name : List ℕ) (e : Sum) (old : FileMap) (new : Option FileMap) (status : Status) (text : List ℕ) : Type 0 where
+  pub bytes : List ℕ
+  pub follower : IsFollower e bytes
+  pub tells : Tells (image_run follower.image table (args ∷ []) [] steps) status text
+  pub value_is : TellsValue e args steps status text
+  pub held : new ≡ Some (with_file old name bytes)
+
+-- how a command comes to its end
+abbrev pub Completes : Table → FileMap → Option FileMap → List ℕ → Status → Verdict → Type 0
+Completes table old new text status (Compiles name e) = Finishes (Compiles name e) old new status text
+Completes table old new text status (Links image z) = Finishes (Links image z) old new status text
+Completes table old new text status (Runs steps args z) = Plays table steps args z old new status text
+Completes table old new text status (Builds steps args image e) = BuildsAndPlays table steps args image e old new status text
+Completes table old new text status verdict = ⊥
+
+-- a refusal has the status and the line that are called for, and changes no file
+pub record Refuses (v : Verdict) (old : FileMap) (new : Option FileMap) (status : Status) (text : List ℕ) : Type 0 where
+  pub refusal_is : refusal_of v ≡ Some (record { status = status; text = text })
+  pub held : new ≡ Some old
+
+-- what a command leaves, by the status that it reports with this line
+abbrev pub Reports : Table → Option Command → FileMap → Option FileMap → Option (List ℕ) → List ℕ → Status → Type 0
+Reports table c old new failed text Done = Completes table old new text Done (verdict old c)
+Reports table c old new failed text Stopped = Completes table old new text Stopped (verdict old c)
+Reports table c old new failed text Budget = Completes table old new text Budget (verdict old c)
+Reports table c old new failed text NotYet = Refuses (verdict old c) old new NotYet text
+Reports table c old new failed text Missing = Refuses (verdict old c) old new Missing text
+Reports table c old new failed text Assembly = Refuses (verdict old c) old new Assembly text
+Reports table c old new failed text ReadFault = (unread : Unread c old new failed) × (text ≡ line (codes "read fault: " ++ unread.name))
+Reports table c old new failed text WriteFault = (torn : TornFile (verdict old c) old new failed) × (text ≡ line (codes "write fault: " ++ torn.name))
+Reports table c old new failed text NoMemory = (text ≡ line (codes "no memory")) × ((new ≡ Some old) ⊎ Wrote (verdict old c) old new)
+
+-- the command has come to its end, and its line was put
+pub record Completed (table : Table) (c : Option Command) (old : FileMap) (new : Option FileMap) (status : Status) (before after : Option (List ℕ)) : Type 0 where
+  pub text : List ℕ
+  pub completes : Completes table old new text status (verdict old c)
+  pub line_is : Appends before after text
+
+-- what is called for is refused, and the line of it was put
+pub record Refused (c : Option Command) (old : FileMap) (new : Option FileMap) (status : Status) (before after : Option (List ℕ)) : Type 0 where
+  pub text : List ℕ
+  pub refuses : Refuses (verdict old c) old new status text
+  pub line_is : Appends before after text
+
+-- the read of the command's file failed: the line has its name
+pub record ReadFailed (c : Option Command) (old : FileMap) (new : Option FileMap) (failed : Option (List ℕ)) (before after : Option (List ℕ)) : Type 0 where
+  pub unread : Unread c old new failed
+  pub line_is : Appends before after (line (codes "read fault: " ++ unread.name))
+
+-- the write of the command's file failed: the line has its name
+pub record WriteFailed (c : Option Command) (old : FileMap) (new : Option FileMap) (failed : Option (List ℕ)) (before after : Option (List ℕ)) : Type 0 where
+  pub torn : TornFile (verdict old c) old new failed
+  pub line_is : Appends before after (line (codes "write fault: " ++ torn.name))
 
 -- the put of the line failed, whatever status it was to tell: a prefix of it was put, and the files are
 -- as that status leaves them. A fault that it was to tell has its cause
-pub record LineFailed (words : List (List ℕ)) (old : FileMap) (new : Option FileMap) (failed : Option (List ℕ)) (reads_before reads_after writes_before writes_after : ℕ) (before after : Option (List ℕ)) : Type 0 where
+pub record LineFailed (table : Table) (c : Option Command) (old : FileMap) (new : Option FileMap) (failed : Option (List ℕ)) (reads_before reads_after writes_before writes_after : ℕ) (before after : Option (List ℕ)) : Type 0 where
   pub status : Status
   pub text : List ℕ
-  pub reported : Reports words old new failed text status
+  pub reported : Reports table c old new failed text status
   pub read_cause : status ≡ ReadFault → Rose reads_before reads_after
   pub write_cause : status ≡ WriteFault → Rose writes_before writes_after
   pub line_is : AppendsPrefix before after text

@@ -1,7 +1,10 @@
 pub mod Status
 pub mod Words
+pub mod Reading
+pub mod Ending
+pub mod Assembly
+pub mod Image
 pub mod Verdict
 pub mod Answers
-pub mod Reading
 pub mod Work
 pub mod Said

@@ -1,59 +1,90 @@
--- What the words and the files call for.
-use Rattle.std.specs.Prelude.{ℕ, ◌^◌, nat_lt, List, [], ◌∷◌, ◌++◌, length, slice_index, codes, if◌then◌else◌, Option, Some, None}
-use Rattle.std.specs.Fmt.{signed_decimal}
-use Rattle.std.specs.Int.{cast_signed, w32}
+-- What a command and the files call for.
+use Rattle.std.specs.Prelude.{◌≡◌, ℕ, ◌^◌, nat_lt, List, [], ◌∷◌, ◌++◌, length, codes, if◌then◌else◌, Option, Some, None, Result, Ok, Err}
+use Rattle.qv_image.specs.Image.{Qvm}
 use Rattle.qv_outside.specs.FileMap.{FileMap, content}
+use Rattle.asm_link.specs.declared.fault.AsmFault.{AsmFault}
+use Rattle.asm_link.specs.declared.fault.AsmKind.{AsmKind}
+use Rattle.asm_link.specs.declared.fault.AsmKind.TheVariants.{NotYet as AsmNotYet}
+use Rattle.asm_link.specs.FirstForm.{answer_of}
 use Rattle.qcc_front.specs.FirstForm.{unit_of}
-use Rattle.qcc_front.specs.Sum.{Sum, value}
+use Rattle.qcc_front.specs.Sum.{Sum}
 use Rattle.qv_tool.specs.declared.status.Status.{Status}
-use Rattle.qv_tool.specs.declared.status.Status.TheVariants.{Done, Missing, NotYet, ReadFault, WriteFault, NoMemory}
-use Rattle.qv_tool.specs.Words.{Command, command_of}
+use Rattle.qv_tool.specs.declared.status.Status.TheVariants.{Done, Missing, NotYet, Assembly, Stopped, Budget, ReadFault, WriteFault, NoMemory}
+use Rattle.qv_tool.specs.Assembly.{fault_text}
+use Rattle.qv_tool.specs.Ending.{line}
+use Rattle.qv_tool.specs.Image.{first_image}
+use Rattle.qv_tool.specs.Words.{Command, Qcc, Q3asm, Qrun, Qall, text_name}
 
 pub data Verdict : Type 0 where
-  -- the words, or the unit, are of a form that isn't served yet
+  -- the words or the file are of a form that isn't served yet
   Unready : Verdict
-  -- the unit's name isn't held
+  -- the file's name isn't held
   Absent : List ℕ → Verdict
   -- it holds more than 2 ^ 31 - 1 bytes
   TooLong : List ℕ → Verdict
-  -- the unit is of the first form, and its sum is returned
-  Returns : Command → Sum → Verdict
+  -- the assembly file of this name isn't linked, for this fault
+  Unlinked : List ℕ → AsmFault → Verdict
+  -- the unit is compiled to a text of this name
+  Compiles : List ℕ → Sum → Verdict
+  -- the assembly file is linked to the image of this name
+  Links : List ℕ → Qvm → Verdict
+  -- the image is called: the most steps, the words of the call
+  Runs : ℕ → List ℕ → Qvm → Verdict
+  -- the unit is compiled and linked to the image of this name, which is called
+  Builds : ℕ → List ℕ → List ℕ → Sum → Verdict
 
-abbrev pub of_unit : Command → Option Sum → Verdict
-of_unit c None = Unready
-of_unit c (Some e) = Returns c e
+-- what a file's bytes call for, where they are held
+abbrev pub of_source : List ℕ → (List ℕ → Verdict) → Option (List ℕ) → Verdict
+of_source name go None = Absent name
+of_source name go (Some bytes) = if nat_lt (length bytes) (2 ^ 31) then go bytes else TooLong name
 
-abbrev pub of_source : Command → Option (List ℕ) → Verdict
-of_source c None = Absent c.unit
-of_source c (Some source) = if nat_lt (length source) (2 ^ 31) then of_unit c (unit_of source) else TooLong c.unit
+abbrev pub of_unit : (Sum → Verdict) → Option Sum → Verdict
+of_unit go None = Unready
+of_unit go (Some e) = go e
 
-abbrev pub of_command : FileMap → Option Command → Verdict
-of_command files None = Unready
-of_command files (Some c) = of_source c (content files c.unit)
+abbrev pub of_fault : List ℕ → AsmKind → AsmFault → Verdict
+of_fault file AsmNotYet fault = Unready
+of_fault file kind fault = Unlinked file fault
 
--- the first thing that refuses, in the order of the command, or the sum that is returned
-abbrev pub verdict : List (List ℕ) → FileMap → Verdict
-verdict words files = of_command files (command_of words)
+abbrev pub of_linked : List ℕ → List ℕ → Result Qvm AsmFault → Verdict
+of_linked image file (Ok z) = Links image z
+of_linked image file (Err fault) = of_fault file fault.kind fault
 
-abbrev pub status_of : Verdict → Status
-status_of Unready = NotYet
-status_of (Absent name) = Missing
-status_of (TooLong name) = Missing
-status_of (Returns c e) = Done
+abbrev pub of_image : ℕ → List ℕ → Option Qvm → Verdict
+of_image steps args None = Unready
+of_image steps args (Some z) = Runs steps args z
 
--- a text as a line
-abbrev pub line : List ℕ → List ℕ
-line text = text ++ 10 ∷ []
+-- the first thing that refuses, in the order of the command, or what is done
+abbrev pub verdict : FileMap → Option Command → Verdict
+verdict files None = Unready
+verdict files (Some (Qcc folder unit)) = of_source unit (λ bytes. of_unit (Compiles (text_name folder unit)) (unit_of bytes)) (content files unit)
+verdict files (Some (Q3asm image file)) = of_source file (λ bytes. of_linked image file (answer_of (bytes ∷ []))) (content files file)
+verdict files (Some (Qrun steps args image)) = of_source image (λ bytes. of_image steps args (first_image bytes)) (content files image)
+verdict files (Some (Qall steps args image unit)) = of_source unit (λ bytes. of_unit (Builds steps args image) (unit_of bytes)) (content files unit)
 
--- the word that a call returns, signed
-abbrev pub returned_line : ℕ → List ℕ
-returned_line word = line (codes "returned " ++ signed_decimal (cast_signed w32 word))
+-- the name of the file that a command reads
+abbrev pub source_of : Option Command → Option (List ℕ)
+source_of None = None
+source_of (Some (Qcc folder unit)) = Some unit
+source_of (Some (Q3asm image file)) = Some file
+source_of (Some (Qrun steps args image)) = Some image
+source_of (Some (Qall steps args image unit)) = Some unit
 
-abbrev pub line_of : Verdict → List ℕ
-line_of Unready = line (codes "not yet")
-line_of (Absent name) = line (codes "absent: " ++ name)
-line_of (TooLong name) = line (codes "too long: " ++ name)
-line_of (Returns c e) = returned_line (value e (slice_index c.args 0))
+-- a refusal: its status and its line
+pub record Refusal : Type 0 where
+  pub status : Status
+  pub text : List ℕ
+
+abbrev pub refusal : Status → List ℕ → Option Refusal
+refusal status text = Some (record { status = status; text = line text })
+
+-- the refusal that is called for, where one is
+abbrev pub refusal_of : Verdict → Option Refusal
+refusal_of Unready = refusal NotYet (codes "not yet")
+refusal_of (Absent name) = refusal Missing (codes "absent: " ++ name)
+refusal_of (TooLong name) = refusal Missing (codes "too long: " ++ name)
+refusal_of (Unlinked file fault) = refusal Assembly (fault_text file fault.line fault.kind)
+refusal_of verdict = None
 
 -- a fault of the outside, or want of memory, which may stand in place of what is called for
 abbrev pub IsFault : Status → Type 0
@@ -62,13 +93,20 @@ IsFault WriteFault = Unit {0}
 IsFault NoMemory = Unit {0}
 IsFault status = ⊥
 
--- the two refusals
 abbrev pub IsRefusal : Status → Type 0
 IsRefusal NotYet = Unit {0}
 IsRefusal Missing = Unit {0}
+IsRefusal Assembly = Unit {0}
 IsRefusal status = ⊥
 
--- a status that the words and the files call for
-abbrev pub IsCalledFor : Status → Type 0
-IsCalledFor Done = Unit {0}
-IsCalledFor status = IsRefusal status
+-- the command came to its end
+abbrev pub IsEnd : Status → Type 0
+IsEnd Done = Unit {0}
+IsEnd Stopped = Unit {0}
+IsEnd Budget = Unit {0}
+IsEnd status = ⊥
+
+-- the status that is called for: that of the refusal, or one of an end
+abbrev pub IsCalledFor : Option Refusal → Status → Type 0
+IsCalledFor None status = IsEnd status
+IsCalledFor (Some r) status = status ≡ r.status

@@ -2,8 +2,14 @@
 #![tactic(auto)]
 
 mod options;
+mod play;
+mod q3asm;
 mod qall;
+mod qcc;
+mod qrun;
 mod report;
 pub mod status;
+mod store;
 pub mod tool;
+mod unlinked;
 mod words;

@@ -1,88 +1,128 @@
 // Reports: a status and the line that tells it.
 ghost use Rattle.std.specs.Prelude.{◌≡◌, ◌++◌, IfOk, codes, string_bytes};
-ghost use Rattle.qv_tool.specs.Verdict.{line, returned_line};
+ghost use Rattle.qv_tool.specs.Ending.{line, stop_line, stop_status, stop_text};
+ghost use Rattle.qv_tool.specs.Work.{Says, SaysUnread};
 
 use crate::status::Status;
 use qv_base::NoMemory;
+use qv_outside::files::FileFault;
 use std::alloc::Global;
+use vm_core::stop::Stop;
 
-/// A status, and the line for the error stream that tells it.
+/// A status, and the line for the error stream that tells it, with its line feed.
 #[derive(Drop)]
 pub struct Report {
-    /// How the call ends.
     pub status: Status,
-    /// The line, with its line feed.
-    pub line: String,
+    pub line: Vec<u8>,
 }
 
-/// The call returned this word, shown signed.
-pub fn returned(alloc: Global, word: u32) -> Result<Report, NoMemory>
-    ensures status { IfOk result (λ report. report.status ≡ Status.Done) }
-    ensures line { IfOk result (λ report. string_bytes report.line ≡ returned_line word) }
+/// The command's file is written.
+pub fn done(alloc: Global) -> Result<Report, NoMemory>
+    ensures { IfOk result (λ report. Says Status.Done (line (codes "done")) report) }
 {
-    let line = format!(in alloc; "returned {}\n", word.cast_signed())?;
+    let line = format!(in alloc; "done\n")?;
     Ok(Report {
         status: Status::Done,
-        line,
+        line: line.into_bytes(),
     })
 }
 
-/// The words or the unit are of a form that isn't served yet.
+/// The words or the file are of a form that isn't served yet.
 pub fn not_yet(alloc: Global) -> Result<Report, NoMemory>
-    ensures status { IfOk result (λ report. report.status ≡ Status.NotYet) }
-    ensures line { IfOk result (λ report. string_bytes report.line ≡ line (codes "not yet")) }
+    ensures { IfOk result (λ report. Says Status.NotYet (line (codes "not yet")) report) }
 {
     let line = format!(in alloc; "not yet\n")?;
     Ok(Report {
         status: Status::NotYet,
-        line,
+        line: line.into_bytes(),
     })
 }
 
-/// No file of this name is there.
-pub fn absent(alloc: Global, name: &str) -> Result<Report, NoMemory>
-    ensures status { IfOk result (λ report. report.status ≡ Status.Missing) }
-    ensures line { IfOk result (λ report. string_bytes report.line ≡ line (codes "absent: " ++ name.now)) }
+/// A read of the file of this name answered this fault.
+pub fn unread(alloc: Global, name: &str, fault: FileFault) -> Result<Report, NoMemory>
+    ensures { IfOk result (λ report. SaysUnread name.now report fault) }
 {
-    let line = format!(in alloc; "absent: {name}\n")?;
+    let (status, line) = match fault {
+        FileFault::Absent => (Status::Missing, format!(in alloc; "absent: {name}\n")?),
+        FileFault::TooLong => (Status::Missing, format!(in alloc; "too long: {name}\n")?),
+        FileFault::Failed => (
+            Status::ReadFault,
+            format!(in alloc; "read fault: {name}\n")?,
+        ),
+        FileFault::NoMemory => return Err(NoMemory),
+    };
     Ok(Report {
-        status: Status::Missing,
-        line,
-    })
-}
-
-/// The file of this name has more bytes than are read.
-pub fn too_long(alloc: Global, name: &str) -> Result<Report, NoMemory>
-    ensures status { IfOk result (λ report. report.status ≡ Status.Missing) }
-    ensures line { IfOk result (λ report. string_bytes report.line ≡ line (codes "too long: " ++ name.now)) }
-{
-    let line = format!(in alloc; "too long: {name}\n")?;
-    Ok(Report {
-        status: Status::Missing,
-        line,
-    })
-}
-
-/// The read of this file failed.
-pub fn read_fault(alloc: Global, name: &str) -> Result<Report, NoMemory>
-    ensures status { IfOk result (λ report. report.status ≡ Status.ReadFault) }
-    ensures line { IfOk result (λ report. string_bytes report.line ≡ line (codes "read fault: " ++ name.now)) }
-{
-    let line = format!(in alloc; "read fault: {name}\n")?;
-    Ok(Report {
-        status: Status::ReadFault,
-        line,
+        status,
+        line: line.into_bytes(),
     })
 }
 
 /// The write of this file failed.
 pub fn write_fault(alloc: Global, name: &str) -> Result<Report, NoMemory>
-    ensures status { IfOk result (λ report. report.status ≡ Status.WriteFault) }
-    ensures line { IfOk result (λ report. string_bytes report.line ≡ line (codes "write fault: " ++ name.now)) }
+    ensures { IfOk result (λ report. Says Status.WriteFault (line (codes "write fault: " ++ name.now)) report) }
 {
     let line = format!(in alloc; "write fault: {name}\n")?;
     Ok(Report {
         status: Status::WriteFault,
-        line,
+        line: line.into_bytes(),
     })
+}
+
+/// The module's call came to this stop.
+pub fn ended(alloc: Global, stop: Stop) -> Result<Report, NoMemory>
+    ensures { IfOk result (λ report. Says (stop_status stop) (stop_line stop) report) }
+{
+    let line = match stop {
+        Stop::Returned(word) => format!(in alloc; "returned {}\n", word.cast_signed())?,
+        Stop::Budget => format!(in alloc; "budget used\n")?,
+        _ => {
+            let text = stop_text(alloc, stop)?;
+            format!(in alloc; "stopped: {text}\n")?
+        }
+    };
+    Ok(Report {
+        status: stop_status(stop),
+        line: line.into_bytes(),
+    })
+}
+
+fn stop_status(stop: Stop) -> Status
+    ensures { result ≡ stop_status stop }
+{
+    match stop {
+        Stop::Returned(_) => Status::Done,
+        Stop::Budget => Status::Budget,
+        _ => Status::Stopped,
+    }
+}
+
+fn stop_text(alloc: Global, stop: Stop) -> Result<String, NoMemory>
+    ensures { IfOk result (λ text. string_bytes text ≡ stop_text stop) }
+{
+    match stop {
+        Stop::Returned(_) => plain(alloc, "returned"),
+        Stop::Budget => plain(alloc, "budget used"),
+        Stop::ModuleError => plain(alloc, "module error"),
+        Stop::OperandOver => plain(alloc, "operand stack over"),
+        Stop::OperandUnder => plain(alloc, "operand stack under"),
+        Stop::StackOver => plain(alloc, "program stack over"),
+        Stop::StackUnder => plain(alloc, "program stack under"),
+        Stop::JumpOut(number) => Ok(format!(in alloc; "jump out {number}")?),
+        Stop::FellOff => plain(alloc, "fell off"),
+        Stop::DivideZero => plain(alloc, "divide zero"),
+        Stop::DivideOver => plain(alloc, "divide over"),
+        Stop::CopyRange => plain(alloc, "copy range"),
+        Stop::UnknownTrap(number) => Ok(format!(in alloc; "unknown trap {number}")?),
+        Stop::TrapRange { number, argument } => {
+            Ok(format!(in alloc; "trap {number} argument {argument} outside")?)
+        }
+        Stop::HostFault => plain(alloc, "host fault"),
+        Stop::OutFault => plain(alloc, "out fault"),
+    }
+}
+
+fn plain(alloc: Global, text: &str) -> Result<String, NoMemory>
+    ensures { IfOk result (λ copy. string_bytes copy ≡ text.now) }
+{
+    Ok(String::from_str(alloc, text)?)
 }

@@ -5,8 +5,14 @@ ghost use Rattle.qv_tool.specs.Status.{code_of};
 /// How a call of the tool ends.
 #[derive(Clone, Copy, Debug, PartialEq, Eq)]
 pub enum Status {
-    /// The module was built and its call returned.
+    /// The file was written, or the module's call returned.
     Done,
+    /// The assembly isn't linked.
+    Assembly,
+    /// The module's call was stopped.
+    Stopped,
+    /// The module's call used all its steps.
+    Budget,
     /// A file that is needed is absent or too long.
     Missing,
     /// A read of a file failed.
@@ -15,7 +21,7 @@ pub enum Status {
     WriteFault,
     /// Memory was wanting.
     NoMemory,
-    /// The words or the unit are of a form that isn't served yet.
+    /// The words or the file are of a form that isn't served yet.
     NotYet,
 }
 
@@ -25,6 +31,9 @@ pub fn status_code(status: Status) -> u8
 {
     match status {
         Status::Done => 0,
+        Status::Assembly => 3,
+        Status::Stopped => 5,
+        Status::Budget => 6,
         Status::Missing => 7,
         Status::ReadFault => 8,
         Status::WriteFault => 9,

@@ -1,6 +1,6 @@
 // Words of the command line.
-ghost use Rattle.std.specs.Prelude.{◌≡◌, ◌≤◌, map, option_map, string_bytes, Some, IfSome};
-ghost use Rattle.qv_tool.specs.Words.{word_of, digits_up_to, begins_with_dash, is_c_ending, is_unit_name, with_option, with_arg, with_image, read_from, no_options, command_with, command_of};
+ghost use Rattle.std.specs.Prelude.{◌≡◌, ◌≤◌, map, option_map, string_bytes, Some, None, IfSome, if◌then◌else◌};
+ghost use Rattle.qv_tool.specs.Words.{word_of, steps_of, digits_up_to, begins_with_dash, is_name, is_c_ending, is_unit_name, verb_of, flag_of, takes, with_arg, with_steps, with_image, with_folder, with_flag, with_taken, with_option, steps_in, command_with, read_from, no_options, read_verb, command_of};
 ghost use Rattle.qv_tool.specs.Reading.{command_shown, options_shown, name_shown};
 
 use crate::options::Options;
@@ -8,42 +8,102 @@ use qv_base::decimal::decimal_up_to;
 use qv_base::limits::CALL_WORDS;
 use qv_base::word;
 
-/// The longest number of a word, in digits.
-const WORD_DIGITS: usize = 10;
+/// The most steps of a call where the words say nothing.
+pub const DEFAULT_STEPS: u64 = 10_000_000;
 
-/// A command of the first form: one call of a unit's vmMain.
-#[derive(Clone, Copy)]
-pub struct Command<'w> {
-    /// The words of the call; missing ones are 0.
-    pub args: [u32; 14],
-    /// The name of the image that is written.
-    pub image: &'w str,
-    /// The name of the unit.
-    pub unit: &'w str,
+/// What the first word says is to be done.
+#[derive(Clone, Copy, Debug, PartialEq, Eq)]
+pub enum Verb {
+    /// `qcc` compiles a unit to assembly text.
+    Compile,
+    /// `q3asm` links an assembly file to an image.
+    Assemble,
+    /// `qrun` calls an image's vmMain.
+    Run,
+    /// `qall` does all three.
+    Build,
 }
 
-/// The command that the words stand for: `qall`, up to 14 times `-a W` and once `-o image` in any order,
-/// and a unit. None exactly where the words have another form.
+/// An option.
+#[derive(Clone, Copy, Debug, PartialEq, Eq)]
+pub enum Flag {
+    /// `-a W`: a word of the call.
+    Arg,
+    /// `-n N`: the most steps of the call.
+    Steps,
+    /// `-o image`: the image that is written.
+    Image,
+    /// `-d dir`: the folder of the text that is written.
+    Folder,
+}
+
+/// A command, with the defaults filled in.
+#[derive(Clone, Copy)]
+pub enum Command<'w> {
+    /// Compiles the unit; its text goes to the folder.
+    Qcc {
+        folder: &'w str,
+        unit: &'w str,
+    },
+    /// Links the file to the image.
+    Q3asm {
+        image: &'w str,
+        file: &'w str,
+    },
+    /// Calls the image's vmMain with these words, for at most `steps` steps.
+    Qrun {
+        steps: u64,
+        args: [u32; CALL_WORDS],
+        image: &'w str,
+    },
+    /// Compiles and links the unit, writes the image and calls it.
+    Qall {
+        steps: u64,
+        args: [u32; CALL_WORDS],
+        image: &'w str,
+        unit: &'w str,
+    },
+}
+
+/// The command that the words stand for: `qcc -d dir unit`, `q3asm -o image file`,
+/// `qrun [-n N] [-a W].. image` or `qall [-n N] [-a W].. -o image unit`, with the options in any order.
+/// None exactly where the words have another form.
 pub fn read_command(words: &[String]) -> Option<Command<'_>>
     ensures { option_map command_shown result ≡ command_of (map string_bytes words.now) }
 {
-    let [name, rest @ ..] = words else {
+    let [first, rest @ ..] = words else {
         return None;
     };
-    if name.as_str() != "qall" {
-        return None;
-    }
-    read_options(rest)
+    read_options(verb_named(first.as_str())?, rest)
 }
 
-// The command of options with their values and a unit.
-fn read_options(words: &[String]) -> Option<Command<'_>>
-    ensures { option_map command_shown result ≡ read_from (Some no_options) (map string_bytes words.now) }
+fn verb_named(word: &str) -> Option<Verb>
+    ensures { result ≡ verb_of word.now }
+{
+    if word == "qcc" {
+        return Some(Verb::Compile);
+    }
+    if word == "q3asm" {
+        return Some(Verb::Assemble);
+    }
+    if word == "qrun" {
+        return Some(Verb::Run);
+    }
+    if word == "qall" {
+        return Some(Verb::Build);
+    }
+    None
+}
+
+// The command of options with their values and a name.
+fn read_options(verb: Verb, words: &[String]) -> Option<Command<'_>>
+    ensures { option_map command_shown result ≡ read_from verb (Some no_options) (map string_bytes words.now) }
 {
     let mut options = no_options();
     let mut at = 0;
     while at + 1 < words.len() {
-        let Some(more) = with_option(options, words[at].as_str(), words[at + 1].as_str()) else {
+        let Some(more) = with_option(verb, options, words[at].as_str(), words[at + 1].as_str())
+        else {
             return None;
         };
         options = more;
@@ -52,31 +112,76 @@ fn read_options(words: &[String]) -> Option<Command<'_>>
     if at == words.len() {
         return None;
     }
-    command_with(options, words[at].as_str())
+    command_with(verb, options, words[at].as_str())
 }
 
 fn no_options() -> Options<'static>
     ensures { options_shown result ≡ no_options }
 {
     Options {
-        args: [0; 14],
+        args: [0; CALL_WORDS],
         count: 0,
+        steps: None,
         image: None,
+        folder: None,
     }
 }
 
-// The options after one more, where it may stand there.
-fn with_option<'w>(options: Options<'w>, flag: &str, value: &'w str) -> Option<Options<'w>>
-    ensures { option_map options_shown result ≡ with_option (options_shown options.entry) flag.now value.now }
+// The options after one more, where the command takes it and it may stand there.
+fn with_option<'w>(
+    verb: Verb,
+    options: Options<'w>,
+    word: &str,
+    value: &'w str,
+) -> Option<Options<'w>>
+    ensures { option_map options_shown result ≡ with_option verb (options_shown options.entry) word.now value.now }
 {
-    if flag == "-a" {
-        let word = word(value.as_bytes())?;
-        return with_arg(options, word);
+    let flag = flag_named(word)?;
+    if !takes(verb, flag) {
+        return None;
     }
-    if flag == "-o" {
-        return with_image(options, value);
+    with_flag(options, flag, value)
+}
+
+fn flag_named(word: &str) -> Option<Flag>
+    ensures { result ≡ flag_of word.now }
+{
+    if word == "-a" {
+        return Some(Flag::Arg);
+    }
+    if word == "-n" {
+        return Some(Flag::Steps);
+    }
+    if word == "-o" {
+        return Some(Flag::Image);
+    }
+    if word == "-d" {
+        return Some(Flag::Folder);
     }
     None
+}
+
+// Whether the command takes the option.
+fn takes(verb: Verb, flag: Flag) -> bool
+    ensures { result ≡ takes verb flag }
+{
+    match verb {
+        Verb::Compile => matches!(flag, Flag::Folder),
+        Verb::Assemble => matches!(flag, Flag::Image),
+        Verb::Run => matches!(flag, Flag::Arg | Flag::Steps),
+        Verb::Build => matches!(flag, Flag::Arg | Flag::Steps | Flag::Image),
+    }
+}
+
+fn with_flag<'w>(options: Options<'w>, flag: Flag, value: &'w str) -> Option<Options<'w>>
+    ensures { option_map options_shown result ≡ with_flag (options_shown options.entry) flag value.now }
+{
+    match flag {
+        Flag::Arg => with_arg(options, word(value.as_bytes())?),
+        Flag::Steps => with_steps(options, steps(value.as_bytes())?),
+        Flag::Image => with_image(options, value),
+        Flag::Folder => with_folder(options, value),
+    }
 }
 
 // `-a`: one more word of the call.
@@ -91,7 +196,25 @@ fn with_arg(options: Options<'_>, word: u32) -> Option<Options<'_>>
     Some(Options {
         args,
         count: options.count + 1,
+        steps: options.steps,
         image: options.image,
+        folder: options.folder,
+    })
+}
+
+// `-n`: the most steps.
+fn with_steps(options: Options<'_>, steps: u64) -> Option<Options<'_>>
+    ensures { option_map options_shown result ≡ with_steps (options_shown options.entry) options.entry.steps (Some steps) }
+{
+    if options.steps.is_some() {
+        return None;
+    }
+    Some(Options {
+        args: options.args,
+        count: options.count,
+        steps: Some(steps),
+        image: options.image,
+        folder: options.folder,
     })
 }
 
@@ -105,57 +228,82 @@ fn with_image<'w>(options: Options<'w>, name: &'w str) -> Option<Options<'w>>
     Some(Options {
         args: options.args,
         count: options.count,
+        steps: options.steps,
         image: Some(name),
+        folder: options.folder,
     })
 }
 
-// The command of these options and a unit.
-fn command_with<'w>(options: Options<'w>, unit: &'w str) -> Option<Command<'w>>
-    ensures { option_map command_shown result ≡ command_with (options_shown options.entry) (name_shown options.entry.image) unit.now }
+// `-d`: the folder's name.
+fn with_folder<'w>(options: Options<'w>, name: &'w str) -> Option<Options<'w>>
+    ensures { option_map options_shown result ≡ with_folder (options_shown options.entry) (name_shown options.entry.folder) name.now }
 {
-    let image = options.image?;
-    if !is_unit_name(unit.as_bytes()) {
+    if options.folder.is_some() || name.is_empty() {
         return None;
     }
-    Some(Command {
+    Some(Options {
         args: options.args,
-        image,
-        unit,
+        count: options.count,
+        steps: options.steps,
+        image: options.image,
+        folder: Some(name),
     })
 }
 
-// A word: an optional minus and 1 to 10 digits, from -2,147,483,648 to 4,294,967,295, mod 2^32.
-fn word(text: &[u8]) -> Option<u32>
-    ensures { result ≡ word_of text.now }
+// The command of these options and the one name behind them.
+fn command_with<'w>(verb: Verb, options: Options<'w>, name: &'w str) -> Option<Command<'w>>
+    ensures { option_map command_shown result ≡ command_with verb (options_shown options.entry) name.now }
 {
-    match text {
-        [b'-', digits @ ..] => {
-            let value = digits_up_to(1 << 31, digits)?;
-            Some(word::neg(value as u32))
+    let steps = options.steps.unwrap_or(DEFAULT_STEPS);
+    let args = options.args;
+    match verb {
+        Verb::Compile => {
+            let folder = options.folder?;
+            let unit = unit_name(name)?;
+            Some(Command::Qcc { folder, unit })
         }
-        _ => {
-            let value = digits_up_to(u64::from(u32::MAX), text)?;
-            Some(value as u32)
+        Verb::Assemble => {
+            let image = options.image?;
+            let file = file_name(name)?;
+            Some(Command::Q3asm { image, file })
+        }
+        Verb::Run => {
+            let image = file_name(name)?;
+            Some(Command::Qrun { steps, args, image })
+        }
+        Verb::Build => {
+            let image = options.image?;
+            let unit = unit_name(name)?;
+            Some(Command::Qall {
+                steps,
+                args,
+                image,
+                unit,
+            })
         }
     }
 }
 
-// A number of 1 to 10 digits that is at most max.
-fn digits_up_to(max: u64, text: &[u8]) -> Option<u64>
-    ensures value { result ≡ digits_up_to max text.now }
-    ensures within { IfSome result (λ n. n ≤ max) }
+// The name, where it is one of a unit: it ends in `.c` with a character before it that is no slash, and
+// begins with no dash.
+fn unit_name(name: &str) -> Option<&str>
+    ensures { name_shown result ≡ (if is_unit_name name.now then Some name.now else None) }
 {
-    if text.len() > WORD_DIGITS {
+    let bytes = name.as_bytes();
+    if begins_with_dash(bytes) || !is_c_ending(&bytes[bytes.len().saturating_sub(3)..]) {
         return None;
     }
-    decimal_up_to(max, text)
+    Some(name)
 }
 
-// A unit's name ends in `.c` with a character before it that is no slash, and begins with no dash.
-fn is_unit_name(name: &[u8]) -> bool
-    ensures { result ≡ is_unit_name name.now }
+// The name, where it isn't empty and begins with no dash.
+fn file_name(name: &str) -> Option<&str>
+    ensures { name_shown result ≡ (if is_name name.now then Some name.now else None) }
 {
-    !begins_with_dash(name) && is_c_ending(&name[name.len().saturating_sub(3)..])
+    if name.is_empty() || begins_with_dash(name.as_bytes()) {
+        return None;
+    }
+    Some(name)
 }
 
 fn begins_with_dash(name: &[u8]) -> bool
@@ -171,4 +319,38 @@ fn is_c_ending(bytes: &[u8]) -> bool
         [before, dot, c] => *before != b'/' && *dot == b'.' && *c == b'c',
         _ => false,
     }
+}
+
+// A word: an optional minus and 1 to 10 digits, from -2,147,483,648 to 4,294,967,295, mod 2^32.
+fn word(text: &[u8]) -> Option<u32>
+    ensures { result ≡ word_of text.now }
+{
+    match text {
+        [b'-', digits @ ..] => {
+            let value = digits_up_to(10, 1 << 31, digits)?;
+            Some(word::neg(value as u32))
+        }
+        _ => {
+            let value = digits_up_to(10, u64::from(u32::MAX), text)?;
+            Some(value as u32)
+        }
+    }
+}
+
+// A count of steps: 1 to 20 digits, at most 2^64 - 1.
+fn steps(text: &[u8]) -> Option<u64>
+    ensures { result ≡ steps_of text.now }
+{
+    digits_up_to(20, u64::MAX, text)
+}
+
+// A number of at least one digit and at most so many, that is at most max.
+fn digits_up_to(digits: usize, max: u64, text: &[u8]) -> Option<u64>
+    ensures value { result ≡ digits_up_to digits max text.now }
+    ensures within { IfSome result (λ n. n ≤ max) }
+{
+    if text.len() > digits {
+        return None;
+    }
+    decimal_up_to(max, text)
 }

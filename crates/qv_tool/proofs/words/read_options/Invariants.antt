@@ -7,7 +7,7 @@ use Rattle.qv_tool.proofs.words.read_options.Given as goal
 abbrev pub invariant-loop-at : goal.invariant-loop-at
 invariant-loop-at l = record {
   within : l.at ≤ length l.words;
-  read : read_from (Some (options_shown l.options)) (map string_bytes (drop l.at l.words)) ≡ read_from (Some no_options) (map string_bytes l.words);
+  read : read_from l.verb (Some (options_shown l.options)) (map string_bytes (drop l.at l.words)) ≡ read_from l.verb (Some no_options) (map string_bytes l.words);
 }
 
 abbrev pub decreases-loop-at : goal.decreases-loop-at

@@ -1,0 +1,45 @@
+-- The lines of faults in assembly.
+use Rattle.std.specs.Prelude.{ℕ, Bool, true, false, List, ◌++◌, codes, if◌then◌else◌}
+use Rattle.std.specs.Fmt.{decimal}
+use Rattle.asm_line.specs.declared.line.LineFault.{LineFault}
+use Rattle.asm_line.specs.declared.line.LineFault.TheVariants.{UnknownWord, Float, Byte2, MissingOperand, BadNumber, ExtraWord}
+use Rattle.asm_link.specs.declared.fault.AsmKind.{AsmKind}
+use Rattle.asm_link.specs.declared.fault.AsmKind.TheVariants.{Line, Redefined, MixedSegments, WrongSegment, OutsideProc, FrameTooLarge, ArgTooFar, UndefinedName, BranchFar, CodeTooLarge, EmptyCode, DataTooLarge, BadList, NoMemory, NotYet}
+
+abbrev pub line_text : LineFault → List ℕ
+line_text UnknownWord = codes "unknown word"
+line_text Float = codes "float"
+line_text Byte2 = codes "byte 2"
+line_text MissingOperand = codes "missing operand"
+line_text BadNumber = codes "bad number"
+line_text ExtraWord = codes "extra word"
+
+abbrev pub kind_text : AsmKind → List ℕ
+kind_text (Line fault) = line_text fault
+kind_text (Redefined name) = codes "redefined " ++ name
+kind_text (MixedSegments name) = codes "mixed segments " ++ name
+kind_text WrongSegment = codes "wrong segment"
+kind_text OutsideProc = codes "outside proc"
+kind_text FrameTooLarge = codes "frame too large"
+kind_text ArgTooFar = codes "argument too far"
+kind_text (UndefinedName name) = codes "undefined " ++ name
+kind_text BranchFar = codes "branch too far"
+kind_text CodeTooLarge = codes "code too large"
+kind_text EmptyCode = codes "empty code"
+kind_text (DataTooLarge size) = codes "data too large " ++ decimal size
+kind_text BadList = codes "bad name"
+kind_text NoMemory = codes "no memory"
+kind_text NotYet = codes "not yet"
+
+-- a fault behind all lines
+abbrev pub is_behind : AsmKind → Bool
+is_behind EmptyCode = true
+is_behind (DataTooLarge size) = true
+is_behind kind = false
+
+-- where a fault stands: at a line of a file, or behind all lines
+abbrev pub place_text : List ℕ → ℕ → Bool → List ℕ
+place_text file number behind = if behind then codes "link" else file ++ codes ":" ++ decimal number
+
+abbrev pub fault_text : List ℕ → ℕ → AsmKind → List ℕ
+fault_text file number kind = place_text file number (is_behind kind) ++ codes ": " ++ kind_text kind

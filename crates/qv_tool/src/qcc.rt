@@ -1,0 +1,53 @@
+// The command qcc: compiles a unit to assembly text.
+ghost use Rattle.std.specs.Prelude.{◌≡◌, IfOk, IfSome, Some, string_bytes};
+ghost use Rattle.qv_outside.specs.Causes.{Rose};
+ghost use Rattle.qv_outside.specs.Hosts.{Table};
+ghost use Rattle.qv_tool.specs.Words.{Qcc, text_name};
+ghost use Rattle.qv_tool.specs.Work.{Works};
+
+use crate::report::{Report, done, not_yet, unread};
+use crate::status::Status;
+use crate::store::store;
+use qcc_front::compile::compile;
+use qcc_front::unit::Unit;
+use qv_base::NoMemory;
+use qv_outside::files::Files;
+use std::alloc::Global;
+use std::path::Path;
+
+/// Reads the unit and writes its text to the folder, under the unit's stem.
+pub fn qcc<F: Files>(
+    alloc: Global,
+    folder: &str,
+    unit: &str,
+    files: &mut F,
+) -> Result<Report, NoMemory>
+    ensures works { (table : Table) → IfSome (F.held files.old) (λ held. Works table (Some (Qcc folder.now unit.now)) held (F.held files.new) (F.failed files.new) result) }
+    ensures read_fault { IfOk result (λ report. report.status ≡ Status.ReadFault → Rose (F.read_faults files.old) (F.read_faults files.new)) }
+    ensures write_fault { IfOk result (λ report. report.status ≡ Status.WriteFault → Rose (F.write_faults files.old) (F.write_faults files.new)) }
+    ensures no_memory { IfOk result (λ report. ¬ (report.status ≡ Status.NoMemory)) }
+{
+    let source = match files.read(alloc, unit) {
+        Ok(source) => source,
+        Err(fault) => return unread(alloc, unit, fault),
+    };
+    let Some(parsed) = Unit::parse(alloc, &source)? else {
+        return not_yet(alloc);
+    };
+    let text = compile(alloc, &parsed)?;
+    let name = text_name(alloc, folder, unit)?;
+    let report = done(alloc)?;
+    match store(alloc, files, name.as_str(), &text)? {
+        None => Ok(report),
+        Some(fault) => Ok(fault),
+    }
+}
+
+// The name of the unit's text.
+fn text_name(alloc: Global, folder: &str, unit: &str) -> Result<String, NoMemory>
+    ensures { IfOk result (λ name. string_bytes name ≡ text_name folder.now unit.now) }
+{
+    let stem = Path::new(unit).file_stem().unwrap_or("");
+    let name = format!(in alloc; "{folder}/{stem}.asm")?;
+    Ok(name)
+}
