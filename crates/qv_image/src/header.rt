@@ -3,6 +3,9 @@ ghost use Rattle.std.specs.Prelude.{◌≡◌, ◌≤◌, length};
 
 use byteorder::{ByteOrder, LittleEndian};
 
+/// The first word of an image's file.
+pub const MAGIC: u32 = 0x1272_1444;
+
 /// The eight words that an image's file begins with, each with its lowest byte first.
 #[derive(Clone, Copy, Debug, PartialEq, Eq)]
 pub struct Header {

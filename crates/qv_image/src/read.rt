@@ -5,14 +5,11 @@ ghost use Rattle.qv_image.specs.Read.{HasParts, IsOfHeader, IsRead, check_length
 ghost use Rattle.qv_image.specs.Shown.{qvm_of};
 
 use crate::fault::ImageFault;
-use crate::header::Header;
+use crate::header::{Header, MAGIC};
 use crate::image::Image;
 use qv_base::NoMemory;
 use qv_ops::decode::decode_all;
 use std::alloc::Global;
-
-// The first word of an image file.
-const MAGIC: u32 = 0x1272_1444;
 
 // The most bytes that code and that data, literals and zero bytes together may take.
 const MAX_CODE_LEN: u32 = 1 << 27;
@@ -147,16 +144,12 @@ mod tests {
 
     #[test]
     fn tells_where_the_file_is_cut(rt: HostRuntime) {
-        let table = [
-            (0, ImageFault::HeaderShort(0)),
-            (31, ImageFault::HeaderShort(31)),
-            (32, ImageFault::CodeOutside),
-            (59, ImageFault::CodeOutside),
-            (60, ImageFault::DataOutside),
-            (63, ImageFault::DataOutside),
-        ];
-        for (len, fault) in table {
-            assert!(rt; len < FILE.len());
+        for len in 0..FILE.len() {
+            let fault = match len {
+                0..=31 => ImageFault::HeaderShort(len as u32),
+                32..=59 => ImageFault::CodeOutside,
+                _ => ImageFault::DataOutside,
+            };
             assert_eq!(rt;
                 read_image(rt.alloc(), &FILE[..len]).err(),
                 Some(fault),
@@ -167,28 +160,31 @@ mod tests {
 
     #[test]
     fn tells_the_first_fault(rt: HostRuntime) {
-        let table = [
-            (0, 0x45, ImageFault::BadMagic(309_466_181)),
-            (23, 0x80, ImageFault::NegativeLength(5)),
-            (27, 0x80, ImageFault::NegativeLength(6)),
-            (31, 0xff, ImageFault::NegativeLength(7)),
-            (4, 0, ImageFault::NoCode),
-            (12, 0, ImageFault::NoCode),
-            (15, 0xff, ImageFault::NoCode),
-            (15, 0x10, ImageFault::CodeTooLarge(0x1000_001c)),
-            (31, 4, ImageFault::DataTooLarge(0x0401_0004)),
-            (4, 9, ImageFault::Code(CodeFault::CodeShort { at: 8 })),
-            (4, 7, ImageFault::Code(CodeFault::TailLong { left: 5 })),
-            (
-                48,
-                56,
-                ImageFault::Code(CodeFault::FloatOpcode { at: 4, op: 56 }),
-            ),
+        let code = ImageFault::Code;
+        let table: [(usize, &[u8], ImageFault); 18] = [
+            (0, &[0x45], ImageFault::BadMagic(309_466_181)),
+            (20, &[0xff; 4], ImageFault::NegativeLength(5)),
+            (23, &[0x80], ImageFault::NegativeLength(5)),
+            (27, &[0x80], ImageFault::NegativeLength(6)),
+            (31, &[0xff], ImageFault::NegativeLength(7)),
+            (4, &[0], ImageFault::NoCode),
+            (12, &[0], ImageFault::NoCode),
+            (15, &[0xff], ImageFault::NoCode),
+            (15, &[0x10], ImageFault::CodeTooLarge(0x1000_001c)),
+            (8, &[0xff; 4], ImageFault::CodeOutside),
+            (16, &[61], ImageFault::DataOutside),
+            (24, &[1], ImageFault::DataOutside),
+            (28, &[0, 0, 0, 4], ImageFault::DataTooLarge(67_108_868)),
+            (4, &[9], code(CodeFault::CodeShort { at: 8 })),
+            (4, &[7], code(CodeFault::TailLong { left: 5 })),
+            (32, &[0], code(CodeFault::BadOpcode { at: 0, op: 0 })),
+            (32, &[60], code(CodeFault::BadOpcode { at: 0, op: 60 })),
+            (48, &[56], code(CodeFault::FloatOpcode { at: 4, op: 56 })),
         ];
-        for (at, byte, fault) in table {
-            assert!(rt; at < FILE.len());
+        for (at, bytes, fault) in table {
+            assert!(rt; at < 60 && bytes.len() <= 4);
             let mut file = FILE;
-            file[at] = byte;
+            file[at..at + bytes.len()].copy_from_slice(bytes);
             assert_eq!(rt; read_image(rt.alloc(), &file).err(), Some(fault), "{at}");
         }
     }

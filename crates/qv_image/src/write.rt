@@ -6,14 +6,12 @@ ghost use Rattle.qv_image.specs.Image.{padding, file_bytes, IsImage};
 ghost use Rattle.qv_image.specs.Read.{read_bytes};
 ghost use Rattle.qv_image.specs.Shown.{qvm_of};
 
+use crate::header::MAGIC;
 use crate::image::Image;
 use byteorder::{ByteOrder, LittleEndian};
 use qv_base::NoMemory;
 use qv_ops::instr::{Instr, encode};
 use std::alloc::Global;
-
-// The first word of an image file.
-const MAGIC: u32 = 0x1272_1444;
 
 // The header's length in bytes, at which the code begins.
 const HEADER_LEN: u32 = 32;

@@ -1,6 +1,6 @@
 //! Opcodes of the virtual machine.
-ghost use Rattle.std.specs.Prelude.{◌≡◌};
-ghost use Rattle.qv_ops.specs.Table.{number_of_op, width_of_op, op_numbered, is_branch, is_float_number};
+ghost use Rattle.std.specs.Prelude.{◌≡◌, IfSome, Some};
+ghost use Rattle.qv_ops.specs.Table.{all_ops, is_branch, is_float_number, name_of_op, number_of_op, op_numbered, op_with_name, width_of_op};
 
 /// An integer opcode of the Quake III 1.32 interpreter, with its number.
 ///
@@ -106,7 +106,10 @@ pub enum Op {
 
 /// The opcode's number: its byte in an image's code.
 pub fn number_of(op: Op) -> u8
-    ensures { result ≡ number_of_op op }
+    ensures number { result ≡ number_of_op op }
+
+    // No other opcode has this number.
+    ensures back { op_numbered result ≡ Some op }
 {
     op as u8
 }
@@ -114,7 +117,10 @@ pub fn number_of(op: Op) -> u8
 /// The integer opcode with this number, and `None` for 0, for the numbers of floating-point opcodes
 /// and above 59.
 pub fn op_at(number: u8) -> Option<Op>
-    ensures { result ≡ op_numbered number }
+    ensures op { result ≡ op_numbered number }
+
+    // The opcode has this number.
+    ensures back { IfSome result (λ op. number_of_op op ≡ number) }
 {
     let op = match number {
         1 => Op::Ignore,
@@ -166,6 +172,135 @@ pub fn op_at(number: u8) -> Option<Op>
         _ => return None,
     };
     Some(op)
+}
+
+/// The opcode's name in the table of the Quake III 1.32 interpreter, as `BLOCK_COPY`.
+pub fn name_of(op: Op) -> &'static str
+    ensures name { result.now ≡ name_of_op op }
+
+    // No other opcode has this name.
+    ensures back { op_with_name result.now ≡ Some op }
+{
+    match op {
+        Op::Ignore => "IGNORE",
+        Op::Break => "BREAK",
+        Op::Enter => "ENTER",
+        Op::Leave => "LEAVE",
+        Op::Call => "CALL",
+        Op::Push => "PUSH",
+        Op::Pop => "POP",
+        Op::Const => "CONST",
+        Op::Local => "LOCAL",
+        Op::Jump => "JUMP",
+        Op::Eq => "EQ",
+        Op::Ne => "NE",
+        Op::Lti => "LTI",
+        Op::Lei => "LEI",
+        Op::Gti => "GTI",
+        Op::Gei => "GEI",
+        Op::Ltu => "LTU",
+        Op::Leu => "LEU",
+        Op::Gtu => "GTU",
+        Op::Geu => "GEU",
+        Op::Load1 => "LOAD1",
+        Op::Load2 => "LOAD2",
+        Op::Load4 => "LOAD4",
+        Op::Store1 => "STORE1",
+        Op::Store2 => "STORE2",
+        Op::Store4 => "STORE4",
+        Op::Arg => "ARG",
+        Op::BlockCopy => "BLOCK_COPY",
+        Op::Sex8 => "SEX8",
+        Op::Sex16 => "SEX16",
+        Op::Negi => "NEGI",
+        Op::Add => "ADD",
+        Op::Sub => "SUB",
+        Op::Divi => "DIVI",
+        Op::Divu => "DIVU",
+        Op::Modi => "MODI",
+        Op::Modu => "MODU",
+        Op::Muli => "MULI",
+        Op::Mulu => "MULU",
+        Op::Band => "BAND",
+        Op::Bor => "BOR",
+        Op::Bxor => "BXOR",
+        Op::Bcom => "BCOM",
+        Op::Lsh => "LSH",
+        Op::Rshi => "RSHI",
+        Op::Rshu => "RSHU",
+    }
+}
+
+// All opcodes, in the order of their numbers.
+static ALL_OPS: [Op; 46] = [
+    Op::Ignore,
+    Op::Break,
+    Op::Enter,
+    Op::Leave,
+    Op::Call,
+    Op::Push,
+    Op::Pop,
+    Op::Const,
+    Op::Local,
+    Op::Jump,
+    Op::Eq,
+    Op::Ne,
+    Op::Lti,
+    Op::Lei,
+    Op::Gti,
+    Op::Gei,
+    Op::Ltu,
+    Op::Leu,
+    Op::Gtu,
+    Op::Geu,
+    Op::Load1,
+    Op::Load2,
+    Op::Load4,
+    Op::Store1,
+    Op::Store2,
+    Op::Store4,
+    Op::Arg,
+    Op::BlockCopy,
+    Op::Sex8,
+    Op::Sex16,
+    Op::Negi,
+    Op::Add,
+    Op::Sub,
+    Op::Divi,
+    Op::Divu,
+    Op::Modi,
+    Op::Modu,
+    Op::Muli,
+    Op::Mulu,
+    Op::Band,
+    Op::Bor,
+    Op::Bxor,
+    Op::Bcom,
+    Op::Lsh,
+    Op::Rshi,
+    Op::Rshu,
+];
+
+fn all_ops() -> &'static [Op]
+    ensures { result.now ≡ all_ops }
+{
+    &ALL_OPS
+}
+
+/// The integer opcode with this name, and `None` where none has it.
+pub fn op_named(name: &[u8]) -> Option<Op>
+    ensures op { result ≡ op_with_name name.now }
+
+    // The opcode has this name.
+    ensures back { IfSome result (λ op. name_of_op op ≡ name.now) }
+{
+    let table = all_ops();
+    for &op in table {
+        if name == name_of(op).as_bytes() {
+            return Some(op);
+        }
+    }
+    None
 }
 
 // Whether an opcode with this number computes with floating-point numbers.
@@ -225,58 +360,64 @@ mod tests {
 
     #[test]
     fn follows_the_table(rt: HostRuntime) {
-        let table = [
-            (Op::Ignore, 1, 0),
-            (Op::Break, 2, 0),
-            (Op::Enter, 3, 4),
-            (Op::Leave, 4, 4),
-            (Op::Call, 5, 0),
-            (Op::Push, 6, 0),
-            (Op::Pop, 7, 0),
-            (Op::Const, 8, 4),
-            (Op::Local, 9, 4),
-            (Op::Jump, 10, 0),
-            (Op::Eq, 11, 4),
-            (Op::Ne, 12, 4),
-            (Op::Lti, 13, 4),
-            (Op::Lei, 14, 4),
-            (Op::Gti, 15, 4),
-            (Op::Gei, 16, 4),
-            (Op::Ltu, 17, 4),
-            (Op::Leu, 18, 4),
-            (Op::Gtu, 19, 4),
-            (Op::Geu, 20, 4),
-            (Op::Load1, 27, 0),
-            (Op::Load2, 28, 0),
-            (Op::Load4, 29, 0),
-            (Op::Store1, 30, 0),
-            (Op::Store2, 31, 0),
-            (Op::Store4, 32, 0),
-            (Op::Arg, 33, 1),
-            (Op::BlockCopy, 34, 4),
-            (Op::Sex8, 35, 0),
-            (Op::Sex16, 36, 0),
-            (Op::Negi, 37, 0),
-            (Op::Add, 38, 0),
-            (Op::Sub, 39, 0),
-            (Op::Divi, 40, 0),
-            (Op::Divu, 41, 0),
-            (Op::Modi, 42, 0),
-            (Op::Modu, 43, 0),
-            (Op::Muli, 44, 0),
-            (Op::Mulu, 45, 0),
-            (Op::Band, 46, 0),
-            (Op::Bor, 47, 0),
-            (Op::Bxor, 48, 0),
-            (Op::Bcom, 49, 0),
-            (Op::Lsh, 50, 0),
-            (Op::Rshi, 51, 0),
-            (Op::Rshu, 52, 0),
+        let table: [(Op, u8, u32, &[u8]); 46] = [
+            (Op::Ignore, 1, 0, b"IGNORE"),
+            (Op::Break, 2, 0, b"BREAK"),
+            (Op::Enter, 3, 4, b"ENTER"),
+            (Op::Leave, 4, 4, b"LEAVE"),
+            (Op::Call, 5, 0, b"CALL"),
+            (Op::Push, 6, 0, b"PUSH"),
+            (Op::Pop, 7, 0, b"POP"),
+            (Op::Const, 8, 4, b"CONST"),
+            (Op::Local, 9, 4, b"LOCAL"),
+            (Op::Jump, 10, 0, b"JUMP"),
+            (Op::Eq, 11, 4, b"EQ"),
+            (Op::Ne, 12, 4, b"NE"),
+            (Op::Lti, 13, 4, b"LTI"),
+            (Op::Lei, 14, 4, b"LEI"),
+            (Op::Gti, 15, 4, b"GTI"),
+            (Op::Gei, 16, 4, b"GEI"),
+            (Op::Ltu, 17, 4, b"LTU"),
+            (Op::Leu, 18, 4, b"LEU"),
+            (Op::Gtu, 19, 4, b"GTU"),
+            (Op::Geu, 20, 4, b"GEU"),
+            (Op::Load1, 27, 0, b"LOAD1"),
+            (Op::Load2, 28, 0, b"LOAD2"),
+            (Op::Load4, 29, 0, b"LOAD4"),
+            (Op::Store1, 30, 0, b"STORE1"),
+            (Op::Store2, 31, 0, b"STORE2"),
+            (Op::Store4, 32, 0, b"STORE4"),
+            (Op::Arg, 33, 1, b"ARG"),
+            (Op::BlockCopy, 34, 4, b"BLOCK_COPY"),
+            (Op::Sex8, 35, 0, b"SEX8"),
+            (Op::Sex16, 36, 0, b"SEX16"),
+            (Op::Negi, 37, 0, b"NEGI"),
+            (Op::Add, 38, 0, b"ADD"),
+            (Op::Sub, 39, 0, b"SUB"),
+            (Op::Divi, 40, 0, b"DIVI"),
+            (Op::Divu, 41, 0, b"DIVU"),
+            (Op::Modi, 42, 0, b"MODI"),
+            (Op::Modu, 43, 0, b"MODU"),
+            (Op::Muli, 44, 0, b"MULI"),
+            (Op::Mulu, 45, 0, b"MULU"),
+            (Op::Band, 46, 0, b"BAND"),
+            (Op::Bor, 47, 0, b"BOR"),
+            (Op::Bxor, 48, 0, b"BXOR"),
+            (Op::Bcom, 49, 0, b"BCOM"),
+            (Op::Lsh, 50, 0, b"LSH"),
+            (Op::Rshi, 51, 0, b"RSHI"),
+            (Op::Rshu, 52, 0, b"RSHU"),
         ];
-        for (op, number, bytes) in table {
+        for (op, number, bytes, name) in table {
             assert_eq!(rt; number_of(op), number, "number of {op:?}");
             assert_eq!(rt; op_at(number), Some(op), "opcode {number}");
             assert_eq!(rt; width(op), bytes, "width of {op:?}");
+            assert_eq!(rt; name_of(op).as_bytes(), name, "name of {op:?}");
+            assert_eq!(rt; op_named(name), Some(op), "opcode of {op:?}");
+        }
+        let others: [&[u8]; 7] = [b"UNDEF", b"ADDF", b"EQF", b"add", b"ADD ", b"SEX", b""];
+        for name in others {
+            assert_eq!(rt; op_named(name), None, "{name:?}");
         }
     }
 }
