@@ -1,5 +1,3 @@
-mod Masks
-mod Served
 pub mod Sizes
 pub mod Appending
 pub mod Runs
@@ -10,5 +8,6 @@ pub mod Goes
 pub mod Frame
 pub mod Replies
 pub mod Quiet
-pub mod ServedRuns
+pub mod QuietRuns
+pub mod QuietCalls
 pub mod Pieces

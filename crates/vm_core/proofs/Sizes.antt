@@ -4,10 +4,11 @@ use Rattle.std.proofs.lemmas.Bool.{cases_lt}
 use Rattle.std.proofs.lemmas.Bool.Decides.{nat_tests}
 use Rattle.std.proofs.lemmas.List.{length-replicate}
 use Rattle.std.proofs.Math.Nat.{pow-succ'}
-use Rattle.std.proofs.Math.Pow.{pow_mono}
+use Rattle.masked_mem.specs.Memory.{IsSize}
+use Rattle.masked_mem.proofs.Sizes.{power-is_size}
 use Rattle.qv_image.specs.Image.{Qvm}
 use Rattle.vm_core.specs.Machine.{fresh_memory}
-use Rattle.vm_core.specs.Memory.{block_size, doubled, IsSize}
+use Rattle.vm_core.specs.Memory.{block_size, doubled}
 
 pub doubled_more : (k size need : ℕ) → size < need → doubled (suc k) size need ≡ doubled k (2 * size) need
 unfolding doubled
@@ -41,20 +42,11 @@ size_at_end k size need le e small =
     let b : size * 2 ^ (20 - k) ≡ size * 1 = ap (λ m. size * 2 ^ m) a in
     omega (arith, b, e)
 
-pub power_two : (size k : ℕ) → size ≡ 2 ^ (6 + k) → size * 2 ≡ 2 ^ (6 + (k + 1))
+pub power_two : (size k : ℕ) → size ≡ 2 ^ k → size * 2 ≡ 2 ^ (k + 1)
 power_two size k e =
-    let a : 6 + (k + 1) ≡ suc (6 + k) = omega arith in
-    let b : 2 ^ (6 + (k + 1)) ≡ 2 * 2 ^ (6 + k) = ap (λ m. 2 ^ m) a ∙ pow-succ' 2 (6 + k) in
+    let a : k + 1 ≡ suc k = omega arith in
+    let b : 2 ^ (k + 1) ≡ 2 * 2 ^ k = ap (λ m. 2 ^ m) a ∙ pow-succ' 2 k in
     omega (arith, b, e)
-
--- a power of two from 64 to 2 ^ 26 is a size
-pub power-is_size : (m : ℕ) → 6 ≤ m → m ≤ 26 → IsSize (2 ^ m)
-power-is_size m low high =
-    let least : 2 ^ 6 ≤ 2 ^ m = pow_mono low in
-    let most : 2 ^ m ≤ 2 ^ 26 = pow_mono high in
-    let a : m ≡ suc (suc (m - 2)) = omega arith in
-    let b : 2 ^ m ≡ 2 * (2 * 2 ^ (m - 2)) = ap (λ k. 2 ^ k) a ∙ pow-succ' 2 (suc (m - 2)) ∙ ap (λ k. 2 * k) (pow-succ' 2 (m - 2)) in
-    record { low = least; high = most; words = omega (arith, b); power = (m, refl) }
 
 -- a size that was found holds what it is for
 pub record Holds (need size : ℕ) : Type 0 where

@@ -1,15 +1,6 @@
--- The block as a list of bytes, and the accesses that the mask keeps within it.
-use Rattle.std.specs.Prelude.{◌≡◌, ◌≤◌, ℕ, zero, suc, ◌-◌, ◌*◌, ◌%◌, ◌^◌, List, ◌∷◌, ◌++◌, length, take, drop, flat_map, nat_le, if◌then◌else◌}
-use Rattle.std.specs.Int.{from_le_bytes, w32}
+-- The memory of a module: the size of its block, and its entry frame.
+use Rattle.std.specs.Prelude.{ℕ, zero, suc, ◌-◌, ◌*◌, ◌^◌, List, ◌∷◌, ◌++◌, length, take, flat_map, nat_le, if◌then◌else◌}
 use Rattle.qv_ops.specs.Code.{word_bytes}
-
--- where the word at an address stands: the address mod the size, rounded down to a multiple of 4
-abbrev pub word_place : List ℕ → ℕ → ℕ
-word_place memory at = at % length memory - at % length memory % 4
-
--- the word at an address
-abbrev pub load4 : List ℕ → ℕ → ℕ
-load4 memory at = from_le_bytes w32 (drop (word_place memory at) memory)
 
 -- the least doubling of size that is at least need, within some doublings
 unfoldable pub doubled : ℕ → ℕ → ℕ → ℕ
@@ -28,10 +19,3 @@ frame_words args = (2 ^ 32 - 1) ∷ 0 ∷ args
 -- the memory with the entry frame in its last 64 bytes
 abbrev pub with_frame : List ℕ → List ℕ → List ℕ
 with_frame memory args = take (length memory - 64) memory ++ flat_map word_bytes (frame_words args)
-
--- a block's size
-pub record IsSize (n : ℕ) : Type 0 where
-  pub low : 64 ≤ n
-  pub high : n ≤ 2 ^ 26
-  pub words : n % 4 ≡ 0
-  pub power : (k : ℕ) × (n ≡ 2 ^ k)

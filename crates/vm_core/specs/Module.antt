@@ -1,8 +1,7 @@
 -- What a module shows.
 use Rattle.std.specs.Prelude.{ℕ, Bool, List, drop, Option}
-use Rattle.std.specs.List.{list_all}
 use Rattle.qv_ops.specs.declared.instr.Instr.{Instr}
-use Rattle.vm_core.specs.Machine.{State, Turn, is_served}
+use Rattle.vm_core.specs.Machine.{State, Turn}
 use Rattle.vm_core.specs.Ran.{Halts}
 use Rattle.vm_core.specs.declared.module.Module.{Module}
 use Rattle.vm_core.specs.declared.module.Registers.{Registers}
@@ -25,10 +24,6 @@ state_of m = state_at m m.registers
 -- whether it may run
 abbrev pub ready_of : Module → Bool
 ready_of m = m.ready
-
--- only instructions that the machine serves
-abbrev pub all_served : List Instr → Bool
-all_served code = list_all (λ i. is_served i.op) code
 
 -- a turn that nothing outside sees
 abbrev pub IsTurn : Turn → Module → Registers → Option Stop → Type 0

@@ -2,8 +2,13 @@
 // interpreter, where every access is kept within the block and every fault is a named stop.
 #![tactic(auto)]
 
-mod block;
-pub mod instructions;
+mod accesses;
+mod arithmetic;
+mod branches;
+mod division;
+mod entry;
+mod frames;
+mod fresh;
 pub mod module;
 mod running;
 mod stack;

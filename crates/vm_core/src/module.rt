@@ -1,7 +1,7 @@
 // A module: an image that runs.
 ghost use Rattle.std.specs.Prelude.{◌≤◌, ◌<◌, ◌^◌, vec_len};
 
-use crate::block::Block;
+use masked_mem::block::Block;
 use qv_ops::instr::Instr;
 
 /// What changes at every step: the operand stack's top, the program stack's place, and the number of

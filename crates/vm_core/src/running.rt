@@ -4,14 +4,16 @@ ghost use Rattle.qv_image.specs.Shown.{qvm_of};
 ghost use Rattle.qv_outside.specs.Causes.{Rose};
 ghost use Rattle.qv_outside.specs.Hosts.{Table};
 ghost use Rattle.vm_core.specs.Machine.{turn, started, fresh_memory};
-ghost use Rattle.vm_core.specs.Module.{code_of, state_of, state_at, ready_of, all_served};
+ghost use Rattle.vm_core.specs.Module.{code_of, state_of, state_at, ready_of};
 ghost use Rattle.vm_core.specs.Ran.{Ran, Outside, outside, close_of};
 
-use crate::block::{Block, size_for};
+use crate::entry::entry_frame;
+use crate::fresh::fresh_block;
 use crate::module::{Module, Registers};
 use crate::stack::empty;
 use crate::step::step;
 use crate::stop::Stop;
+use masked_mem::block::Block;
 use qv_base::NoMemory;
 use qv_image::image::Image;
 use qv_outside::host::Host;
@@ -30,17 +32,16 @@ impl Module {
         ensures memory { IfOk result (λ m. (state_of m).memory ≡ fresh_memory (qvm_of image.now)) }
         ensures unready { IfOk result (λ m. ready_of m ≡ false) }
     {
-        let need = image.data_part.len() as u32 + image.lit.len() as u32 + image.bss;
-        let size = size_for(need);
         let code = image.code.to_vec(alloc)?;
-        let block = Block::new(alloc, &image.data_part, &image.lit, size)?;
+        let block = fresh_block(alloc, image)?;
+        let program_stack = block.size() - 64;
         Ok(Module {
             code,
             block,
             words: [0; 256],
             registers: Registers {
                 top: 256,
-                program_stack: size - 64,
+                program_stack,
                 next: 0,
             },
             ready: false,
@@ -55,10 +56,7 @@ impl Module {
         ensures ready { ready_of self.new ≡ true }
     {
         let top = self.block.size() - 64;
-        let mut words = [0u32; 16];
-        words[0] = u32::MAX;
-        words[2..].copy_from_slice(args);
-        self.block.put_words(top as usize, &words);
+        self.block.put(top, &entry_frame(args));
         self.registers = Registers {
             top: empty(&self.words),
             program_stack: top,
@@ -74,6 +72,13 @@ impl Module {
         self.ready
     }
 
+    /// Its block of memory.
+    pub fn block(&self) -> &Block
+        ensures { result.now ≡ (state_of self.now).memory }
+    {
+        &self.block
+    }
+
     /// Makes at most `n` steps: `host` answers traps, and `out` takes the text that is printed. After
     /// `Stop::Budget` it goes on from there when it is run again; after any other stop it has to be
     /// started first.
@@ -81,7 +86,6 @@ impl Module {
     #[inline(never)]
     pub fn run<H: Host, O: Sink>(&mut self, n: u64, host: &mut H, out: &mut O) -> Stop
         requires ready { ready_of self.old ≡ true }
-        requires served { IsTrue (all_served (code_of self.old)) }
         ensures ran { Ran (turn (code_of self.old) (H.table host.old)) n (state_of self.old) (state_of self.new) (outside (H.asked host.old) (H.replied host.old) (O.written out.old)) (outside (H.asked host.new) (H.replied host.new) (O.written out.new)) (close_of result) }
         ensures code { code_of self.new ≡ code_of self.old }
         ensures ready { IsTrue (ready_of self.new) ↔ (result ≡ Stop.Budget) }
@@ -108,7 +112,6 @@ impl Module {
         out: &mut O,
     ) -> Stop
         requires ready { ready_of self.old ≡ true }
-        requires served { IsTrue (all_served (code_of self.old)) }
         ensures ran { Ran (turn (code_of self.old) (H.table host.old)) (sum budgets.now) (state_of self.old) (state_of self.new) (outside (H.asked host.old) (H.replied host.old) (O.written out.old)) (outside (H.asked host.new) (H.replied host.new) (O.written out.new)) (close_of result) }
         ensures code { code_of self.new ≡ code_of self.old }
         ensures ready { IsTrue (ready_of self.new) ↔ (result ≡ Stop.Budget) }
@@ -129,9 +132,8 @@ impl Module {
     }
 }
 
-// At most n steps. No instruction that is served so far asks the host or puts.
+// At most n steps. No instruction asks the host or puts anything yet.
 fn turns(m: &mut Module, r: &mut Registers, n: u64) -> Stop
-    requires { IsTrue (all_served (code_of m.old)) }
     ensures ran { (table : Table) (told : Outside) → Ran (turn (code_of m.old) table) n (state_at m.old r.old) (state_at m.new r.new) told told (close_of result) }
     ensures code { code_of m.new ≡ code_of m.old }
     ensures no_host_fault { result ≢ Stop.HostFault }

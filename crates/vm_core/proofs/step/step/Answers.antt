@@ -3,11 +3,7 @@ use Rattle.vm_core.specs.Machine.{turn, act}
 use Rattle.vm_core.specs.Module.{code_of, state_at}
 use Rattle.vm_core.proofs.Goes.{turn_is}
 use Rattle.vm_core.proofs.Loop.{halts_along}
-use Rattle.vm_core.proofs.Served.{served_at}
 use Rattle.vm_core.proofs.step.step.Goals as goal
-
-pub act-requires-clause-served : goal.act-requires-clause-served
-act-requires-clause-served c = served_at (code_of c.args.m.now) c.args.r.now.next c.in-Some.instr c.requires (sym c.fetch.ensures ∙ c.in-Some.is)
 
 pub returns-clause-step : goal.returns-clause-step
 returns-clause-step c = λ table.

@@ -1,6 +1,5 @@
-use Rattle.std.proofs.Common.{◌≤◌, length, rules, arith}
+use Rattle.std.proofs.Common.{◌≤◌, length, arith}
 use Rattle.qv_image.proofs.Sizes.{length-padded_code-le}
-use Rattle.vm_core.proofs.Served.{stays_served}
 use Rattle.vm_core.proofs.tests.image.Goals as goal
 
 pub invariant_of-result : goal.invariant_of-result
@@ -11,6 +10,6 @@ invariant_of-result c =
       count_fits = omega (arith, few);
       code_fits = omega (arith, few, length-padded_code-le c.args.code.items);
       encodable = c.requires.encodable;
-      branches_within = stays_served (length c.args.code.items) c.args.code.items c.requires.served;
-      block_fits = search rules;
+      branches_within = c.requires.within;
+      block_fits = omega (arith, c.requires.data, c.requires.lit, c.requires.bss);
     }

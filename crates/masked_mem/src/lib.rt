@@ -1,0 +1,6 @@
+//! The block of memory of a module, in which a mask keeps every access.
+#![tactic(auto)]
+
+pub mod block;
+#[cfg(test)]
+mod tests;
