@@ -1,0 +1,5 @@
+pub mod Cut
+pub mod Parts
+pub mod Defining
+pub mod Counting
+pub mod Reading

@@ -1,0 +1,115 @@
+//! Definitions of macros: `name=text`, or `name` for `name=1`.
+ghost use Rattle.std.specs.Prelude.{◌≡◌, IfOk, OnOk, map, option_map, string_bytes};
+ghost use Rattle.std.specs.List.{list_all, list_any, position_or_len};
+ghost use Rattle.std.specs.Str.{bytes_eq};
+ghost use Rattle.qv_words.specs.Define.{is_identifier_byte, is_identifier, is_macro_name, reserved, defined_as, definition_of, with_definition};
+ghost use Rattle.qv_words.specs.Shown.{define_shown};
+
+use crate::text::is_definition_text;
+use qv_base::NoMemory;
+use qv_base::decimal::is_digit;
+use std::alloc::Global;
+
+// Names that can't be defined.
+static RESERVED: [&str; 6] = [
+    "defined", "__STDC__", "__FILE__", "__LINE__", "__DATE__", "__TIME__",
+];
+
+/// The macro that a value of `-D` defines: its name and its text. None where the name can't be
+/// defined or the text isn't allowed.
+///
+/// # Errors
+///
+/// NoMemory where memory for them is refused.
+pub fn definition(alloc: Global, value: &str) -> Result<Option<(String, String)>, NoMemory>
+    ensures { IfOk result (λ d. option_map define_shown d ≡ definition_of value.now) }
+{
+    match value.split_once('=') {
+        Some((name, text)) => defined_as(alloc, name, text),
+        None => defined_as(alloc, value, "1"),
+    }
+}
+
+fn defined_as(alloc: Global, name: &str, text: &str) -> Result<Option<(String, String)>, NoMemory>
+    ensures { IfOk result (λ d. option_map define_shown d ≡ defined_as name.now text.now) }
+{
+    if !is_macro_name(name) || !is_definition_text(alloc, text.as_bytes())? {
+        return Ok(None);
+    }
+    let name = String::from_str(alloc, name)?;
+    let text = String::from_str(alloc, text)?;
+    Ok(Some((name, text)))
+}
+
+fn is_macro_name(name: &str) -> bool
+    ensures { result ≡ is_macro_name name.now }
+{
+    is_identifier(name.as_bytes()) && !is_reserved(name)
+}
+
+fn is_reserved(name: &str) -> bool
+    ensures { result ≡ list_any (bytes_eq name.now) reserved }
+{
+    for word in &RESERVED {
+        if name == *word {
+            return true;
+        }
+    }
+    false
+}
+
+// Whether the word is an identifier: letters, digits and `_`, and no digit first.
+fn is_identifier(word: &[u8]) -> bool
+    ensures { result ≡ is_identifier word.now }
+{
+    match word {
+        [first, ..] => !is_digit(*first) && are_identifier_bytes(word),
+        [] => false,
+    }
+}
+
+fn are_identifier_bytes(word: &[u8]) -> bool
+    ensures { result ≡ list_all is_identifier_byte word.now }
+{
+    for byte in word {
+        if !is_identifier_byte(*byte) {
+            return false;
+        }
+    }
+    true
+}
+
+fn is_identifier_byte(byte: u8) -> bool
+    ensures { result ≡ is_identifier_byte byte }
+{
+    matches!(byte, b'A'..=b'Z' | b'a'..=b'z' | b'0'..=b'9' | b'_')
+}
+
+/// Adds a macro, in the place of an earlier one of its name where there is one.
+///
+/// # Errors
+///
+/// NoMemory where memory for it is refused.
+pub fn define(defs: &mut Vec<(String, String)>, d: (String, String)) -> Result<(), NoMemory>
+    ensures { OnOk result (map define_shown defs.new.items ≡ with_definition (define_shown d) (map define_shown defs.old.items)) }
+{
+    let at = place_of(defs, d.0.as_str());
+    if at < defs.len() {
+        defs[at] = d;
+    } else {
+        defs.push(d)?;
+    }
+    Ok(())
+}
+
+// The place of the first macro of this name, or the number of macros where there is none.
+fn place_of(defs: &[(String, String)], name: &str) -> usize
+    ensures { result ≡ position_or_len (λ d. bytes_eq d.0 name.now) (map define_shown defs.now) }
+{
+    for (i, earlier) in defs.iter().enumerate() {
+        if earlier.0.as_str() == name {
+            return i;
+        }
+    }
+    defs.len()
+}

@@ -1,0 +1,128 @@
+//! Names: files, units and the stems of units.
+ghost use Rattle.std.specs.Prelude.{◌≡◌, ◌≤◌, IsTrue, length, map, string_bytes};
+ghost use Rattle.std.specs.List.{list_any};
+ghost use Rattle.std.specs.Str.{bytes_eq};
+ghost use Rattle.qv_words.specs.Names.{begins_with_dash, is_name, is_c_ending, without_c, is_unit_name, are_some, are_files, are_units, file_part, stem_of, have_distinct_stems};
+
+/// The most units or files of a command.
+pub const NAMES: usize = 4096;
+
+/// The stem of a unit: what stands behind its last slash, without an ending `.c`.
+pub fn stem(unit: &str) -> &str
+    ensures { result.now ≡ stem_of unit.now }
+{
+    without_c(file_part(unit))
+}
+
+fn without_c(name: &str) -> &str
+    ensures { result.now ≡ without_c name.now }
+{
+    match name.strip_suffix(".c") {
+        Some(stem) => stem,
+        None => name,
+    }
+}
+
+// What stands behind the last slash, or all where there is none.
+fn file_part(unit: &str) -> &str
+    ensures { result.now ≡ file_part unit.now }
+{
+    let bytes = unit.as_bytes();
+    for at in (0..bytes.len()).rev() {
+        if bytes[at] == b'/' {
+            return &unit[at + 1..];
+        }
+    }
+    unit
+}
+
+/// Whether no two units have the same stem.
+pub fn have_distinct_stems(units: &[String]) -> bool
+    ensures { result ≡ have_distinct_stems (map string_bytes units.now) }
+{
+    for (i, unit) in units.iter().enumerate() {
+        if is_stem_of_any(stem(unit.as_str()), &units[i + 1..]) {
+            return false;
+        }
+    }
+    true
+}
+
+// Whether one of the units has this stem.
+fn is_stem_of_any(stem_sought: &str, units: &[String]) -> bool
+    ensures { result ≡ list_any (bytes_eq stem_sought.now) (map stem_of (map string_bytes units.now)) }
+{
+    for unit in units {
+        if stem_sought == stem(unit.as_str()) {
+            return true;
+        }
+    }
+    false
+}
+
+/// Whether these are 1 to 4,096 names of files.
+pub fn are_files(names: &[String]) -> bool
+    ensures test { result ≡ are_files (map string_bytes names.now) }
+    ensures most { IsTrue result → length names.now ≤ 4096 }
+{
+    if !are_some(names) {
+        return false;
+    }
+    for name in names {
+        if !is_name(name.as_bytes()) {
+            return false;
+        }
+    }
+    true
+}
+
+/// Whether these are 1 to 4,096 names of units.
+pub fn are_units(names: &[String]) -> bool
+    ensures { result ≡ are_units (map string_bytes names.now) }
+{
+    if !are_some(names) {
+        return false;
+    }
+    for name in names {
+        if !is_unit_name(name.as_bytes()) {
+            return false;
+        }
+    }
+    true
+}
+
+fn are_some(names: &[String]) -> bool
+    ensures { result ≡ are_some (map string_bytes names.now) }
+{
+    !names.is_empty() && names.len() <= NAMES
+}
+
+/// Whether the name isn't empty and begins with no dash.
+pub fn is_name(name: &[u8]) -> bool
+    ensures { result ≡ is_name name.now }
+{
+    !name.is_empty() && !begins_with_dash(name)
+}
+
+// Whether the name ends in `.c` with a character before it that is no slash, and begins with no dash.
+fn is_unit_name(name: &[u8]) -> bool
+    ensures { result ≡ is_unit_name name.now }
+{
+    !begins_with_dash(name) && is_c_ending(&name[name.len().saturating_sub(3)..])
+}
+
+/// Whether the word begins with a dash.
+pub fn begins_with_dash(word: &[u8]) -> bool
+    ensures { result ≡ begins_with_dash word.now }
+{
+    matches!(word, [b'-', ..])
+}
+
+fn is_c_ending(bytes: &[u8]) -> bool
+    ensures { result ≡ is_c_ending bytes.now }
+{
+    match bytes {
+        [before, dot, c] => *before != b'/' && *dot == b'.' && *c == b'c',
+        _ => false,
+    }
+}
