@@ -10,8 +10,10 @@ use Rattle.std.proofs.lemmas.Fmt.{decimal_nonempty, digits_decimal, digits_value
 use Rattle.qv_base.specs.Decimal.{is_digit, decimal_from, decimal_up_to}
 use Rattle.qv_ops.specs.Code.{fits_width}
 use Rattle.qv_base.specs.Word.{negated}
-use Rattle.asm_line.specs.Operand.{number_of}
+use Rattle.asm_line.specs.Operand.{expression, is_name, is_name_byte, is_sign, number_of}
+use Rattle.asm_line.specs.Row.{constant}
 use Rattle.asm_line.specs.Text.{is_word_byte}
+use Rattle.asm_line.proofs.Operands.{expression-number, pieces-plain}
 
 own : IsNumeralModel (λ ds. all_ascii_digits ds ≡ true) (decimal_from 0)
 own = numerals_by_fold _ (search rules) decimal_from (search rules)
@@ -67,15 +69,34 @@ within n m h = grind (arith, nat_tests)
 three_true : (a b c : Bool) (n : ℕ) → a ≡ true → b ≡ true → c ≡ true → (if a && b && c then Some n else None) ≡ Some n
 three_true a b c n ha hb hc = rw (ha, hb, hc) refl
 
+decimal_up_to-decimal : (max n : ℕ) → n < 2 ^ 64 → n ≤ max → decimal_up_to max (decimal n) ≡ Some n
+decimal_up_to-decimal max n big h =
+    let value : decimal_from 0 (decimal n) ≡ n = digits_value-decimal own n big in
+    let small : decimal_from 0 (decimal n) ≤ max = omega arith in
+    three_true (nat_lt 0 (length (decimal n))) (list_all is_digit (decimal n)) (nat_le (decimal_from 0 (decimal n)) max) (decimal_from 0 (decimal n)) (is_positive (length (decimal n)) (decimal_nonempty n big)) (decimal_digits n big) (within (decimal_from 0 (decimal n)) max small)
+    ∙ ap (λ x. Some x) value
+
 -- a word written in decimal is read back
 pub number_of-decimal : (n : ℕ) → n < 2 ^ 32 → number_of (decimal n) ≡ Some n
 number_of-decimal n h =
     let big : n < 2 ^ 64 = omega arith in
-    let value : decimal_from 0 (decimal n) ≡ n = digits_value-decimal own n big in
-    let small : decimal_from 0 (decimal n) ≤ 2 ^ 32 - 1 = omega arith in
-    unsigned (decimal n) (decimal_nonempty n big) (digits_decimal own n big)
-    ∙ three_true (nat_lt 0 (length (decimal n))) (list_all is_digit (decimal n)) (nat_le (decimal_from 0 (decimal n)) (2 ^ 32 - 1)) (decimal_from 0 (decimal n)) (is_positive (length (decimal n)) (decimal_nonempty n big)) (decimal_digits n big) (within (decimal_from 0 (decimal n)) (2 ^ 32 - 1) small)
-    ∙ ap (λ x. Some x) value
+    unsigned (decimal n) (decimal_nonempty n big) (digits_decimal own n big) ∙ decimal_up_to-decimal (2 ^ 32 - 1) n big (omega arith)
+
+-- and so is one behind a minus
+pub number_of-negative : (n : ℕ) → n ≤ 2 ^ 31 → number_of (45 ∷ decimal n) ≡ Some (negated n)
+number_of-negative n h = ap (option_map negated) (decimal_up_to-decimal (2 ^ 31) n (omega arith) h)
+
+no_name : (ds : List ℕ) → 0 < length ds → all_ascii_digits ds ≡ true → is_name ds ≡ false
+no_name [] some a = absurd (omega arith)
+no_name (c ∷ cs) some a = ap (λ k. not k && list_all is_name_byte (c ∷ cs)) (first_is c cs a).0
+
+-- also as an expression
+pub expression-decimal : (n : ℕ) → n < 2 ^ 32 → expression (decimal n) ≡ Some (constant n)
+expression-decimal n h =
+    let big : n < 2 ^ 64 = omega arith in
+    let digits : all_ascii_digits (decimal n) ≡ true = digits_decimal own n big in
+    let some : 0 < length (decimal n) = decimal_nonempty n big in
+    expression-number (decimal n) n (pieces-plain (decimal n) some (digits_pass (λ b. not (is_sign b)) (λ c d. grind (arith, nat_tests)) (decimal n) digits)) (no_name (decimal n) some digits) (number_of-decimal n h)
 
 -- 0 fits each width
 pub zero_fits : (width : ℕ) → IsTrue (fits_width width 0)

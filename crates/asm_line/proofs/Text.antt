@@ -1,9 +1,9 @@
 -- Lines of a text, and words of a line.
-use Rattle.std.proofs.Common.{◌≡◌, ℕ, ◌+◌, ◌<◌, Bool, true, false, ◌&&◌, List, [], ◌∷◌, ◌++◌, append-nil, length, take, drop, get_or, refl, sym, ap, ◌∙◌, arith}
+use Rattle.std.proofs.Common.{◌≡◌, ℕ, zero, suc, ◌+◌, ◌<◌, Bool, true, false, ◌&&◌, List, [], ◌∷◌, ◌++◌, append-nil, length, take, drop, get_or, refl, sym, ap, ◌∙◌, arith}
 use Rattle.std.specs.Prelude.{IsTrue, if◌then◌else◌, not, ◌==◌}
 use Rattle.std.specs.List.{list_all}
 use Rattle.std.proofs.lemmas.Bool.Decides.{nat_tests}
-use Rattle.std.proofs.lemmas.List.{drop_more, take-append-drop}
+use Rattle.std.proofs.lemmas.List.{drop_more, take-append-drop, take_all}
 use Rattle.asm_line.specs.Text.{onto, lines_of, is_blank, is_word_byte, starts_with, before, words_of}
 
 both_true : (a b : Bool) → (a && b) ≡ true → (a ≡ true) × (b ≡ true)
@@ -13,6 +13,9 @@ both_true false b h = (h, cc)
 not_true : (a : Bool) → not a ≡ true → a ≡ false
 not_true true h = sym h
 not_true false h = refl
+
+both : (a b : Bool) → a ≡ true → b ≡ true → (a && b) ≡ true
+both a b h k = ap (λ x. x && b) h ∙ k
 
 -- lines
 
@@ -107,11 +110,29 @@ pub words_of-last : (word : List ℕ) → 0 < length word → IsTrue (list_all i
 words_of-last word some h =
     ap words_of (sym (append-nil word)) ∙ words_of-word word [] some h refl ∙ ap (λ ws. word ∷ ws) words_of-nil
 
+no_line_feed : (b : ℕ) → ¬ ((b == 10) ≡ true) → not (b == 10) ≡ true
+no_line_feed b h = elim (b == 10) as (λ k. ¬ (k ≡ true) → not k ≡ true) [ true ↦ λ h. absurd (h refl) | false ↦ λ h. refl ] h
+
+-- no line feed stands before a place
+none_before : (text : List ℕ) (i : ℕ) → ((k : ℕ) → k < i → ¬ ((get_or text k 0 == 10) ≡ true)) → list_all (λ b. not (b == 10)) (take i text) ≡ true
+none_before [] zero h = refl
+none_before [] (suc i) h = refl
+none_before (b ∷ text) zero h = refl
+none_before (b ∷ text) (suc i) h =
+    both (not (b == 10)) (list_all (λ b. not (b == 10)) (take i text)) (no_line_feed b (h 0 (omega arith))) (none_before text i (λ k lt. h (suc k) (omega arith)))
+
 -- the text is cut at its first line feed
-pub lines_of-cut : (text : List ℕ) (i : ℕ) → i < length text → IsTrue (list_all (λ b. not (b == 10)) (take i text)) → get_or text i 0 ≡ 10 → lines_of text ≡ take i text ∷ lines_of (drop (i + 1) text)
+pub lines_of-cut : (text : List ℕ) (i : ℕ) → i < length text → ((k : ℕ) → k < i → ¬ ((get_or text k 0 == 10) ≡ true)) → (get_or text i 0 == 10) ≡ true → lines_of text ≡ take i text ∷ lines_of (drop (i + 1) text)
 lines_of-cut text i lt h e =
-    ap lines_of (sym (take-append-drop i text) ∙ ap (λ r. take i text ++ r) (drop_more text i 0 lt ∙ ap (λ b. b ∷ drop (i + 1) text) e))
-    ∙ lines_of-line (take i text) (drop (i + 1) text) h
+    let feed : get_or text i 0 ≡ 10 = grind (arith, nat_tests) in
+    ap lines_of (sym (take-append-drop i text) ∙ ap (λ r. take i text ++ r) (drop_more text i 0 lt ∙ ap (λ b. b ∷ drop (i + 1) text) feed))
+    ∙ lines_of-line (take i text) (drop (i + 1) text) (none_before text i h)
+
+-- and is one line where it has none
+pub lines_of-whole : (text : List ℕ) → ((k : ℕ) → k < length text → ¬ ((get_or text k 0 == 10) ≡ true)) → lines_of text ≡ text ∷ []
+lines_of-whole text h =
+    let all : take (length text) text ≡ text = take_all _ _ (omega arith) in
+    lines_of-last text (ap (list_all (λ b. not (b == 10))) (sym all) ∙ none_before text (length text) h)
 
 -- a line is cut behind its blanks
 pub words_of-blanks : (line : List ℕ) (i : ℕ) → i < length line → is_blank (get_or line i 0) ≡ true → words_of (drop (i + 1) line) ≡ words_of (drop i line)

@@ -1,5 +1,6 @@
 pub mod Row
 pub mod Text
 pub mod Operand
-pub mod FirstForm
+pub mod Words
+pub mod Read
 pub mod Shown

@@ -4,7 +4,6 @@ use denote.Ref.{Bor}
 use Rattle.asm_line.specs.declared.line.Value.{Value}
 use Rattle.asm_line.specs.declared.line.Line.{Line}
 use Rattle.asm_line.specs.declared.line.Line.TheVariants.{Nothing, Proc, EndProc, One, Call, Arg, Ret, LocalAt, ParamAt, Into, Label, Equ, Word, LitByte, Skip, Align}
-use Rattle.asm_line.specs.declared.words.Word.{Word as TableWord}
 use Rattle.asm_line.specs.declared.words.Meaning.{Meaning}
 use Rattle.asm_line.specs.Row.{Expression, Row, Nothing as RowNothing, Proc as RowProc, EndProc as RowEndProc, One as RowOne, Call as RowCall, Arg as RowArg, Ret as RowRet, LocalAt as RowLocalAt, ParamAt as RowParamAt, Into as RowInto, Label as RowLabel, Equ as RowEqu, Word as RowWord, LitByte as RowLitByte, Skip as RowSkip, Align as RowAlign}
 
@@ -34,5 +33,5 @@ row_of (Skip n) = RowSkip n
 row_of (Align n) = RowAlign n
 
 -- a word of the table and its meaning
-abbrev pub word_of : TableWord → List ℕ × Meaning
-word_of w = (w.name.now, w.meaning)
+abbrev pub word_of : Bor (List ℕ) × Meaning → List ℕ × Meaning
+word_of w = (w.0.now, w.1)

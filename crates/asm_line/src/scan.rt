@@ -3,6 +3,8 @@ ghost use Rattle.std.specs.Prelude.{◌≡◌, ◌∷◌, [], ◌<◌, ◌≤◌
 ghost use Rattle.std.specs.List.{list_all};
 ghost use Rattle.asm_line.specs.Text.{lines_of, words_of, is_blank, is_word_byte, starts_with};
 
+use memchr::memchr;
+
 /// The first line of a text, and the text behind its line feed. None where the line is the last one.
 ///
 /// Each text has a line at least.
@@ -10,12 +12,10 @@ pub fn cut_line(text: &[u8]) -> (&[u8], Option<&[u8]>)
     ensures lines { MatchOption result.1 (lines_of text.now ≡ result.0.now ∷ []) (λ rest. lines_of text.now ≡ result.0.now ∷ lines_of rest.now) }
     ensures shorter { IfSome result.1 (λ rest. length rest.now < length text.now) }
 {
-    for (i, byte) in text.iter().enumerate() {
-        if *byte == b'\n' {
-            return (&text[..i], Some(&text[i + 1..]));
-        }
+    match memchr(b'\n', text) {
+        Some(i) => (&text[..i], Some(&text[i + 1..])),
+        None => (text, None),
     }
-    (text, None)
 }
 
 /// The first word of a line, and the line behind it. None where the line has no word left.

@@ -11,7 +11,8 @@ use Rattle.asm_line.specs.Row.{Row, Nothing, Proc, EndProc, One, Call, Arg, Ret,
 use Rattle.asm_line.specs.declared.line.AsmSegment.{AsmSegment}
 use Rattle.asm_line.specs.declared.line.AsmSegment.TheVariants.{Code, Data, Lit, Bss}
 use Rattle.asm_link.specs.Spot.{Entry, Spot, Read, Unread, FileEnd}
-use Rattle.asm_link.specs.State.{Before, step, step_entry, step_line, grown, labelled, settled, size_in, zeros_to}
+use Rattle.asm_link.specs.State.{Before, step, step_entry, step_line, grown, labelled, settled, size_in}
+use Rattle.asm_place.specs.Size.{zeros_to}
 use Rattle.asm_link.specs.Names.{seen_from, state_after}
 use Rattle.asm_link.specs.Faults.{is_segment}
 use Rattle.asm_link.specs.Image.{bytes_at, bytes_in, bytes_of, instrs_at, instrs_in, instrs_of, word}

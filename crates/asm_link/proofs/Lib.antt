@@ -1,4 +1,5 @@
-pub mod Table
+pub mod Looking
+pub mod Gathering
+pub mod Reading
 pub mod Counts
 pub mod Limits
-pub mod FirstForm

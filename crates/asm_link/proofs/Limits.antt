@@ -16,7 +16,8 @@ use Rattle.asm_line.specs.declared.line.AsmSegment.TheVariants.{Data, Lit}
 use Rattle.asm_link.specs.declared.fault.AsmKind.{AsmKind}
 use Rattle.asm_link.specs.declared.fault.AsmKind.TheVariants.{ArgTooFar, UndefinedName, BranchFar, CodeTooLarge, EmptyCode, DataTooLarge}
 use Rattle.asm_link.specs.Spot.{Entry, Spot, Read, carries, carries_entry}
-use Rattle.asm_link.specs.State.{Before, start, step, rounded, zeros_to}
+use Rattle.asm_link.specs.State.{Before, start, step}
+use Rattle.asm_place.specs.Size.{rounded, zeros_to}
 use Rattle.asm_link.specs.Names.{seen, seen_from, state_after, value_at, value_of, number_of_name}
 use Rattle.asm_link.specs.Faults.{when, unread, redefined, mixed, wrong_segment, outside_proc, too_large, too_far, undefined, undefined_value, is_past, branch_far, code_too_large, of_line, of_entry, kind_at}
 use Rattle.asm_link.specs.Image.{bytes_at, frame_of, frame_size, image_of, instrs_at, instrs_in, instrs_of, padded, word}

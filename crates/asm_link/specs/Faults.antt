@@ -7,9 +7,10 @@ use Rattle.asm_line.specs.declared.line.AsmSegment.{AsmSegment}
 use Rattle.asm_line.specs.declared.line.AsmSegment.TheVariants.{Code, Data, Lit, Bss}
 use Rattle.asm_link.specs.declared.fault.AsmKind.{AsmKind}
 use Rattle.asm_link.specs.declared.fault.AsmKind.TheVariants.{Line, Redefined, MixedSegments, WrongSegment, OutsideProc, FrameTooLarge, ArgTooFar, UndefinedName, BranchFar, CodeTooLarge}
-use Rattle.asm_link.specs.declared.symbols.Known.{Known}
+use Rattle.asm_place.specs.Size.{rounded}
+use Rattle.asm_link.specs.declared.names.Known.{Known}
 use Rattle.asm_link.specs.Spot.{Entry, Spot, Read, Unread}
-use Rattle.asm_link.specs.State.{Before, step, start, rounded}
+use Rattle.asm_link.specs.State.{Before, step, start}
 use Rattle.asm_link.specs.Names.{Seen, known, entry_name, value_of, number_of_name, state_after}
 
 -- this fault, where the test holds

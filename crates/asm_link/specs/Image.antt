@@ -10,7 +10,8 @@ use Rattle.asm_line.specs.declared.line.AsmSegment.TheVariants.{Data, Lit}
 use Rattle.asm_line.specs.Row.{Expression, Row, Proc, EndProc, One, Call, Arg, Ret, LocalAt, ParamAt, Word, LitByte, Skip, Align}
 use Rattle.asm_link.specs.declared.state.Frame.{Frame}
 use Rattle.asm_link.specs.Spot.{Entry, Spot, Read}
-use Rattle.asm_link.specs.State.{Before, start, rounded, size_in, zeros_to}
+use Rattle.asm_place.specs.Size.{rounded, zeros_to}
+use Rattle.asm_link.specs.State.{Before, start, size_in}
 use Rattle.asm_link.specs.Names.{Seen, seen, value_of, state_after}
 use Rattle.asm_link.specs.Faults.{is_segment}
 

@@ -4,6 +4,5 @@ pub mod Names
 pub mod Faults
 pub mod Image
 pub mod Link
-pub mod FirstForm
-pub mod Table
+pub mod Known
 pub mod Shown

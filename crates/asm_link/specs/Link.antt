@@ -8,7 +8,8 @@ use Rattle.asm_link.specs.declared.fault.AsmFault.{AsmFault}
 use Rattle.asm_link.specs.declared.fault.AsmKind.{AsmKind}
 use Rattle.asm_link.specs.declared.fault.AsmKind.TheVariants.{EmptyCode, DataTooLarge, NoMemory}
 use Rattle.asm_link.specs.Spot.{Spot, spots_of}
-use Rattle.asm_link.specs.State.{Before, start, rounded}
+use Rattle.asm_place.specs.Size.{rounded}
+use Rattle.asm_link.specs.State.{Before, start}
 use Rattle.asm_link.specs.Names.{Seen, seen, state_after}
 use Rattle.asm_link.specs.Faults.{kind_at}
 use Rattle.asm_link.specs.Image.{bss_length, image_of}

@@ -1,14 +1,15 @@
 -- Names and their numbers over the list of all lines.
-use Rattle.std.specs.Prelude.{ℕ, ◌+◌, ◌%◌, ◌^◌, ◌==◌, Bool, false, ◌&&◌, ◌||◌, not, List, [], ◌∷◌, Option, Some, None, option_map, find}
-use Rattle.std.specs.Str.{bytes_eq}
+use Rattle.std.specs.Prelude.{ℕ, ◌+◌, ◌%◌, ◌^◌, Bool, false, List, [], ◌∷◌, Option, Some, None, option_map, find}
 use Rattle.asm_line.specs.Row.{Expression, Row, Proc, Into, Label, Equ, Word, LitByte, Skip, Align}
 use Rattle.asm_link.specs.Spot.{Entry, Spot, Read, Unread, FileEnd}
 use Rattle.asm_line.specs.declared.line.AsmSegment.{AsmSegment}
 use Rattle.asm_line.specs.declared.line.AsmSegment.TheVariants.{Code, Data, Lit, Bss}
-use Rattle.asm_link.specs.declared.symbols.Known.{Known}
-use Rattle.asm_link.specs.declared.symbols.Place.{Place}
-use Rattle.asm_link.specs.declared.symbols.Place.TheVariants.{Number, In}
-use Rattle.asm_link.specs.State.{Before, step, start, rounded, size_in}
+use Rattle.asm_place.specs.Size.{rounded}
+use Rattle.asm_place.specs.Symbols.{same_name}
+use Rattle.asm_place.specs.declared.place.Place.{Place}
+use Rattle.asm_place.specs.declared.place.Place.TheVariants.{Number, In}
+use Rattle.asm_link.specs.declared.names.Known.{Known}
+use Rattle.asm_link.specs.State.{Before, step, start, size_in}
 
 -- a line where it stands: its number among all lines, what the lines before it come to, and the lines behind it
 pub record Seen : Type 0 where
@@ -28,14 +29,6 @@ seen all = seen_from 0 start all
 abbrev pub state_after : Before → List Spot → Before
 state_after s [] = s
 state_after s (x ∷ xs) = state_after (step s x) xs
-
--- a name that begins with $ belongs to its file
-abbrev pub is_local : List ℕ → Bool
-is_local [] = false
-is_local (c ∷ cs) = c == 36
-
-abbrev pub same_name : ℕ → List ℕ → ℕ → List ℕ → Bool
-same_name file name other_file other = bytes_eq name other && (not (is_local name) || file == other_file)
 
 -- the name that a line defines
 abbrev pub line_name : Row → Option (List ℕ)

@@ -1,19 +1,19 @@
 -- The program's values by what they stand for.
 use Rattle.std.specs.Prelude.{ℕ, List, map, option_map}
 use Rattle.asm_line.specs.Shown.{bytes_of, row_of}
+use Rattle.asm_link.specs.declared.fault.AsmFault.{AsmFault}
 use Rattle.asm_link.specs.declared.fault.AsmFile.{AsmFile}
 use Rattle.asm_link.specs.declared.fault.AsmKind.{AsmKind}
 use Rattle.asm_link.specs.declared.fault.AsmKind.TheVariants.{Line as AsmLine, Redefined as AsmRedefined, MixedSegments as AsmMixedSegments, WrongSegment as AsmWrongSegment, OutsideProc as AsmOutsideProc, FrameTooLarge as AsmFrameTooLarge, ArgTooFar as AsmArgTooFar, UndefinedName as AsmUndefinedName, BranchFar as AsmBranchFar, CodeTooLarge as AsmCodeTooLarge, EmptyCode as AsmEmptyCode, DataTooLarge as AsmDataTooLarge}
+use Rattle.asm_link.specs.declared.kind.Fault.{Fault}
 use Rattle.asm_link.specs.declared.kind.Kind.{Kind}
 use Rattle.asm_link.specs.declared.kind.Kind.TheVariants.{Line, Redefined, MixedSegments, WrongSegment, OutsideProc, FrameTooLarge, ArgTooFar, UndefinedName, BranchFar, CodeTooLarge, EmptyCode, DataTooLarge}
 use Rattle.asm_link.specs.declared.spot.Entry.{Entry}
 use Rattle.asm_link.specs.declared.spot.Entry.TheVariants.{Read, Unread, FileEnd}
 use Rattle.asm_link.specs.declared.spot.Spot.{Spot}
 use Rattle.asm_link.specs.declared.state.State.{State}
-use Rattle.asm_link.specs.declared.symbols.Symbol.{Symbol}
 use Rattle.asm_link.specs.Spot.{Entry as EntryShown, Spot as SpotShown, Read as ReadShown, Unread as UnreadShown, FileEnd as FileEndShown}
 use Rattle.asm_link.specs.State.{Before}
-use Rattle.asm_link.specs.Table.{Named}
 
 -- the texts of files
 abbrev pub texts_of : List AsmFile → List (List ℕ)
@@ -30,9 +30,6 @@ spot_of s = record { file = s.file; line = s.line; entry = entry_of s.entry }
 abbrev pub before_of : State → Before
 before_of s = record { segment = s.segment; frame = s.frame; arg_words = s.arg_words; last = option_map bytes_of s.last; waits = s.waits; count = s.count; code_bytes = s.code_bytes; data_size = s.data_size; lit_size = s.lit_size; bss_size = s.bss_size }
 
-abbrev pub named_of : Symbol → Named
-named_of s = record { file = s.file; name = s.name.now; known = s.known }
-
 abbrev pub kind_of : Kind → AsmKind
 kind_of (Line fault) = AsmLine fault
 kind_of (Redefined name) = AsmRedefined name.now
@@ -46,3 +43,6 @@ kind_of BranchFar = AsmBranchFar
 kind_of CodeTooLarge = AsmCodeTooLarge
 kind_of EmptyCode = AsmEmptyCode
 kind_of (DataTooLarge size) = AsmDataTooLarge size
+
+abbrev pub fault_of : Fault → AsmFault
+fault_of f = record { file = f.file; line = f.line; kind = kind_of f.kind }

@@ -1,9 +1,8 @@
 -- The lines of all files, one after the other.
-use Rattle.std.specs.Prelude.{ℕ, ◌+◌, Bool, true, List, [], ◌∷◌, Option, Some, None}
+use Rattle.std.specs.Prelude.{ℕ, ◌+◌, Bool, true, List, [], ◌∷◌, Result, Ok, Err}
 use Rattle.qv_base.specs.Place.{capped}
 use Rattle.asm_line.specs.declared.line.LineFault.{LineFault}
-use Rattle.asm_line.specs.declared.line.LineFault.TheVariants.{UnknownWord}
-use Rattle.asm_line.specs.FirstForm.{first_row}
+use Rattle.asm_line.specs.Read.{read_row}
 use Rattle.asm_line.specs.Row.{Row, is_carried}
 use Rattle.asm_line.specs.Text.{lines_of, words_of}
 
@@ -20,13 +19,12 @@ pub record Spot : Type 0 where
   pub line : ℕ
   pub entry : Entry
 
--- a line that isn't of the first form counts as one that can't be read: such files aren't served yet
-abbrev pub entry_of_row : Option Row → Entry
-entry_of_row None = Unread UnknownWord
-entry_of_row (Some row) = Read row
+abbrev pub entry_of_row : Result Row LineFault → Entry
+entry_of_row (Ok row) = Read row
+entry_of_row (Err fault) = Unread fault
 
 abbrev pub entry_of_line : List ℕ → Entry
-entry_of_line line = entry_of_row (first_row (words_of line))
+entry_of_line line = entry_of_row (read_row (words_of line))
 
 -- the lines of a file from this number on, its end, and then the rest
 abbrev pub file_spots : ℕ → ℕ → List (List ℕ) → List Spot → List Spot

@@ -1,7 +1,8 @@
 -- What the lines before a place come to.
-use Rattle.std.specs.Prelude.{List, Bool, ℕ, ◌+◌, ◌-◌, ◌*◌, ◌/◌, ◌%◌, ◌==◌, true, false, Option, Some, None, if◌then◌else◌}
+use Rattle.std.specs.Prelude.{List, Bool, ℕ, ◌+◌, true, false, Option, Some, None}
 use Rattle.qv_ops.specs.Table.{width_of_op}
 use Rattle.asm_line.specs.Row.{Row, Nothing, Proc, EndProc, One, Call, Arg, Ret, LocalAt, ParamAt, Into, Label, Equ, Word, LitByte, Skip, Align}
+use Rattle.asm_place.specs.Size.{rounded, zeros_to}
 use Rattle.asm_link.specs.Spot.{Entry, Spot, Read, Unread, FileEnd}
 use Rattle.asm_line.specs.declared.line.AsmSegment.{AsmSegment}
 use Rattle.asm_line.specs.declared.line.AsmSegment.TheVariants.{Code, Data, Lit, Bss}
@@ -19,9 +20,6 @@ pub record Before : Type 0 where
   pub data_size : ℕ
   pub lit_size : ℕ
   pub bss_size : ℕ
-
-abbrev pub rounded : ℕ → ℕ
-rounded n = (n + 3) / 4 * 4
 
 -- before the first line: four bytes of data
 abbrev pub start : Before
@@ -47,10 +45,6 @@ counted n bytes s = record s { count = s.count + n; code_bytes = s.code_bytes + 
 -- no label waits, and the segment is this one
 abbrev pub settled : AsmSegment → Before → Before
 settled segment s = record s { segment = segment; waits = false }
-
--- zero bytes to a multiple of n
-abbrev pub zeros_to : ℕ → ℕ → ℕ
-zeros_to n size = if n == 0 then 0 else (n - size % n) % n
 
 -- a label outside code waits
 abbrev pub labelled : AsmSegment → Before → Before → Before

@@ -9,10 +9,11 @@ ghost use Rattle.asm_link.specs.State.{weight};
 
 use crate::faults::is_segment;
 use crate::spot::{Entry, Spot};
-use crate::state::{Frame, State, rounded, size_in, zeros_to};
+use crate::state::{Frame, State, size_in};
 use crate::values::value_of;
 use crate::whole::Whole;
 use asm_line::line::{AsmSegment, Line, Value};
+use asm_place::size::{rounded, zeros_to};
 use qv_base::NoMemory;
 use qv_ops::instr::Instr;
 use qv_ops::op::Op;

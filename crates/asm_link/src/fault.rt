@@ -44,14 +44,11 @@ pub enum AsmKind {
     BadList,
     /// Memory was refused.
     NoMemory,
-    /// The files aren't of the first form, the only one that is served yet.
-    NotYet,
 }
 
 /// Why files aren't linked, and where.
 ///
-/// A fault behind all lines has the number of files and line 0, and `NotYet` and `NoMemory` have file
-/// 0 and line 0.
+/// A fault behind all lines has the number of files and line 0, and `NoMemory` has file 0 and line 0.
 #[derive(Debug, Drop)]
 pub struct AsmFault {
     /// The file's number, from 0.

@@ -7,12 +7,13 @@ ghost use Rattle.asm_link.specs.Shown.{entry_of, spot_of, before_of, kind_of};
 ghost use Rattle.asm_link.specs.State.{weight, step};
 
 use crate::kind::Kind;
+use crate::labels::entry_name;
 use crate::spot::{Entry, Spot};
-use crate::state::{State, rounded, step};
-use crate::symbols::entry_name;
+use crate::state::{State, step};
 use crate::values::{known, value_of};
 use crate::whole::Whole;
 use asm_line::line::{AsmSegment, Line, Value};
+use asm_place::size::rounded;
 use qv_base::limits::{CODE_BYTES, FRAME_BYTES};
 use qv_ops::op::Op;
 
@@ -43,13 +44,8 @@ fn unread<'a>(entry: &Entry<'a>) -> Option<Kind<'a>>
     }
 }
 
-/// The line defines a name that another line before it defines.
-pub fn redefined<'a>(
-    whole: &Whole<'a>,
-    at: usize,
-    s: &State<'a>,
-    spot: &Spot<'a>,
-) -> Option<Kind<'a>>
+// The line defines a name that another line before it defines.
+fn redefined<'a>(whole: &Whole<'a>, at: usize, s: &State<'a>, spot: &Spot<'a>) -> Option<Kind<'a>>
     ensures { option_map kind_of result ≡ redefined (map spot_of whole.now.spots.now) (record { at = at; state = before_of s.now; spot = spot_of spot.now; behind = [] }) }
 {
     let name = entry_name(&spot.entry)?;
@@ -106,8 +102,8 @@ fn wrong_segment<'a>(line: &Line<'a>, s: &State<'a>) -> Option<Kind<'a>>
     }
 }
 
-/// The line has to stand in a procedure, and none is open.
-pub fn outside_proc<'a>(line: &Line<'a>, s: &State<'a>) -> Option<Kind<'a>>
+// The line has to stand in a procedure, and none is open.
+fn outside_proc<'a>(line: &Line<'a>, s: &State<'a>) -> Option<Kind<'a>>
     ensures { option_map kind_of result ≡ outside_proc (row_of line.now) (before_of s.now) }
 {
     match line {
@@ -152,8 +148,8 @@ fn undefined_value<'a>(whole: &Whole<'a>, file: u32, value: &Value<'a>) -> Optio
     }
 }
 
-/// The line uses a name that no line defines.
-pub fn undefined<'a>(whole: &Whole<'a>, file: u32, line: &Line<'a>) -> Option<Kind<'a>>
+// The line uses a name that no line defines.
+fn undefined<'a>(whole: &Whole<'a>, file: u32, line: &Line<'a>) -> Option<Kind<'a>>
     ensures { option_map kind_of result ≡ undefined (map spot_of whole.now.spots.now) file (row_of line.now) }
 {
     match line {

@@ -4,9 +4,9 @@ ghost use Rattle.std.specs.Prelude.{◌≡◌, IfOk, IsTrue, map};
 ghost use Rattle.std.specs.List.{list_all};
 ghost use Rattle.asm_link.specs.Spot.{carries};
 
+use crate::naming::{add, none};
 use crate::spot::Spot;
 use crate::state::{advance, start};
-use crate::symbols::add;
 use crate::whole::Whole;
 use qv_base::NoMemory;
 use std::alloc::Global;
@@ -17,15 +17,15 @@ pub fn gather<'a>(alloc: Global, spots: &'a [Spot<'a>]) -> Result<Whole<'a>, NoM
     requires { IsTrue (list_all carries (map spot_of spots.now)) }
     ensures { IfOk result (λ w. w.spots.now ≡ spots.now) }
 {
-    let mut symbols = Vec::new(alloc);
+    let mut names = none(alloc);
     let mut state = start();
     for (i, spot) in spots.iter().enumerate() {
-        add(&mut symbols, i, &state, spot, &spots[i + 1..])?;
+        add(&mut names, i, &state, spot, &spots[i + 1..])?;
         advance(&mut state, spot);
     }
     Ok(Whole {
         spots,
-        symbols,
+        names,
         last: state,
     })
 }

@@ -25,6 +25,17 @@ pub enum Kind<'a> {
     DataTooLarge(u128),
 }
 
+/// A fault and its place.
+#[derive(Clone, Copy)]
+pub struct Fault<'a> {
+    /// The file's number, from 0.
+    pub file: u32,
+    /// The line's number, from 1.
+    pub line: u32,
+    /// Why.
+    pub kind: Kind<'a>,
+}
+
 /// The kind with names of its own.
 pub fn owned(alloc: Global, kind: Kind<'_>) -> Result<AsmKind, NoMemory>
     ensures { IfOk result (λ owned. owned ≡ kind_of kind.entry) }

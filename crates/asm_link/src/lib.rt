@@ -1,16 +1,21 @@
 //! Links files of assembly into an image.
 #![tactic(auto)]
 
+mod check;
 mod emit;
 pub mod fault;
 mod faults;
-mod form;
 mod gather;
 mod kind;
+mod labels;
 pub mod link;
+mod names;
+mod naming;
+mod parts;
 mod read;
 mod spot;
 mod state;
-mod symbols;
+#[cfg(test)]
+mod tests;
 mod values;
 mod whole;

@@ -2,11 +2,15 @@
 ghost use Rattle.std.specs.Prelude.{◌≡◌, ◌+◌, ◌<◌, ◌≤◌, ◌^◌};
 ghost use Rattle.asm_line.specs.Shown.{row_of};
 ghost use Rattle.asm_link.specs.Shown.{before_of, spot_of};
-ghost use Rattle.asm_link.specs.State.{start, step, step_line, weight, grown, counted, settled, rounded, zeros_to, size_in};
+ghost use Rattle.asm_link.specs.State.{start, step, step_line, weight, grown, counted, settled, size_in};
 
 use crate::spot::{Entry, Spot};
 use asm_line::line::{AsmSegment, Line};
+use asm_place::size::{rounded, zeros_to};
 use qv_ops::op::width;
+
+/// Bytes of the stack behind the other zero bytes.
+pub const STACK: u128 = 65_536;
 
 /// The sizes of an open procedure in bytes, each rounded up to 4.
 #[derive(Clone, Copy, Debug, PartialEq, Eq)]
@@ -60,14 +64,6 @@ pub fn start<'a>() -> State<'a>
     }
 }
 
-/// A size rounded up to 4.
-pub fn rounded(n: u128) -> u128
-    requires { n < 2 ^ 127 }
-    ensures { result ≡ rounded n }
-{
-    (n + 3) / 4 * 4
-}
-
 /// The bytes in a segment.
 pub fn size_in(state: &State<'_>, segment: AsmSegment) -> u128
     ensures { result ≡ size_in segment (before_of state.now) }
@@ -78,17 +74,6 @@ pub fn size_in(state: &State<'_>, segment: AsmSegment) -> u128
         AsmSegment::Lit => state.lit_size,
         AsmSegment::Bss => state.bss_size,
     }
-}
-
-/// How many zero bytes make the size a multiple of n.
-pub fn zeros_to(n: u32, size: u128) -> u128
-    ensures { result ≡ zeros_to n size }
-{
-    if n == 0 {
-        return 0;
-    }
-    let n = u128::from(n);
-    (n - size % n) % n
 }
 
 // Bytes more in a segment.

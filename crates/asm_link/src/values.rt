@@ -5,20 +5,19 @@ ghost use Rattle.asm_link.specs.Names.{known, number, base, value_of};
 ghost use Rattle.asm_link.specs.Shown.{spot_of, before_of};
 ghost use Rattle.asm_link.specs.State.{weight};
 
-use crate::state::{State, rounded};
-use crate::symbols::{Known, Place, find};
+use crate::names::Known;
+use crate::naming::find;
+use crate::state::State;
 use crate::whole::Whole;
 use asm_line::line::{AsmSegment, Value};
+use asm_place::place::Place;
+use asm_place::size::rounded;
 
 /// What is known of a name in a file. None where no line defines it.
-#[tactic(auto, using(crate::proofs::Table::known_of_table))]
 pub fn known(whole: &Whole<'_>, file: u32, name: &[u8]) -> Option<Known>
     ensures { result ≡ known (map spot_of whole.now.spots.now) file name.now }
 {
-    match find(&whole.symbols, file, name) {
-        Some(symbol) => Some(symbol.known),
-        None => None,
-    }
+    find(&whole.names, file, name)
 }
 
 // The length of the segments before one.

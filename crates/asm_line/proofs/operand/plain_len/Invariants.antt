@@ -1,0 +1,8 @@
+use Rattle.std.proofs.Common.{take}
+use Rattle.std.specs.Prelude.{IsTrue, not}
+use Rattle.std.specs.List.{list_all}
+use Rattle.asm_line.specs.Operand.{is_sign}
+use Rattle.asm_line.proofs.operand.plain_len.Given as goal
+
+abbrev pub invariant-loop-i : goal.invariant-loop-i
+invariant-loop-i l = IsTrue (list_all (λ b. not (is_sign b)) (take l.i l.text))

@@ -1,7 +1,0 @@
-use Rattle.std.proofs.Common.{take}
-use Rattle.std.specs.Prelude.{IsTrue, not, ◌==◌}
-use Rattle.std.specs.List.{list_all}
-use Rattle.asm_line.proofs.scan.cut_line.Given as goal
-
-abbrev pub invariant-loop-i : goal.invariant-loop-i
-invariant-loop-i l = IsTrue (list_all (λ b. not (b == 10)) (take l.i l.text))
