@@ -1,0 +1,9 @@
+mod Written
+mod Rows
+mod Sections
+mod Sizes
+mod Linked
+mod Kept
+mod Numerals
+mod Reading
+mod Back
