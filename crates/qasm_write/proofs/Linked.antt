@@ -1,31 +1,28 @@
 -- A unit's rows are linked to the code of its lines, with no fault.
-use Rattle.std.proofs.Common.{◌≡◌, ℕ, zero, suc, ◌+◌, ◌*◌, ◌^◌, ◌≤◌, Bool, true, false, ◌&&◌, ◌==◌, ◌<◌, List, [], ◌∷◌, ◌++◌, length, append_assoc, Option, Some, None, Ok, refl, sym, ap, ◌∙◌, subst, arith}
-use Rattle.std.specs.Prelude.{replicate, codes, flat_map, nat_lt, if◌then◌else◌}
+use Rattle.std.proofs.Common.{◌≡◌, ℕ, ◌+◌, ◌*◌, ◌^◌, ◌≤◌, Bool, true, false, ◌&&◌, ◌==◌, ◌<◌, List, [], ◌∷◌, ◌++◌, length, append_assoc, Some, None, Ok, refl, sym, ap, ◌∙◌, arith}
+use Rattle.std.specs.Prelude.{replicate, flat_map, if◌then◌else◌}
 use Rattle.std.specs.List.{list_all}
 use Rattle.std.specs.Option.{option_or, option_map}
 use Rattle.std.proofs.lemmas.Bool.Decides.{nat_tests}
 use Rattle.std.proofs.lemmas.Grind.{flat_map-append}
 use Rattle.qv_base.specs.Place.{capped}
 use Rattle.qv_ops.specs.declared.instr.Instr.{Instr}
-use Rattle.qv_ops.specs.declared.op.Op.TheVariants.{Push, Leave, Enter}
+use Rattle.qv_ops.specs.declared.op.Op.TheVariants.{Enter}
 use Rattle.qv_image.specs.Image.{Qvm}
 use Rattle.asm_line.specs.declared.line.AsmSegment.{AsmSegment}
 use Rattle.asm_line.specs.declared.line.AsmSegment.TheVariants.{Code, Data, Lit, Bss}
-use Rattle.asm_link.specs.declared.fault.AsmFault.{AsmFault}
-use Rattle.asm_link.specs.declared.fault.AsmKind.{AsmKind}
 use Rattle.asm_link.specs.declared.fault.AsmKind.TheVariants.{EmptyCode}
 use Rattle.asm_line.specs.Row.{Nothing}
 use Rattle.asm_link.specs.Spot.{Spot, Read, FileEnd}
-use Rattle.asm_link.specs.State.{Before, start, step}
+use Rattle.asm_link.specs.State.{start, step}
 use Rattle.asm_link.specs.Names.{Seen, seen_from, seen, state_after}
 use Rattle.asm_link.specs.Faults.{kind_at}
-use Rattle.asm_link.specs.FirstForm.{keeps_form, are_in_form, has_instruction}
 use Rattle.asm_link.specs.Image.{instrs_at, bytes_at, padded, bss_length, image_of}
-use Rattle.asm_link.specs.Link.{first_fault, end_fault, fault_in, unless_fault, fault_at}
+use Rattle.asm_link.specs.Link.{first_fault, end_fault, fault_in, unless_fault}
 use Rattle.qasm_write.specs.declared.line.UnitLine.{UnitLine}
 use Rattle.qasm_write.specs.declared.line.UnitLine.TheVariants.{Open, Close}
 use Rattle.qasm_write.specs.Unit.{line_code, is_inner, instr, unit_image}
-use Rattle.qasm_write.proofs.Rows.{spot, end_spots, inner_spots, inside, outside, line_bytes, line_bytes-le, inner_step, seen_at, inner_code, inner_kind, inner_form, no_bytes, not_large}
+use Rattle.qasm_write.proofs.Rows.{spot, end_spots, inner_spots, inside, outside, line_bytes, line_bytes-le, inner_step, seen_at, inner_code, inner_kind, no_bytes, not_large}
 
 both_true : (a b : Bool) → (a && b) ≡ true → (a ≡ true) × (b ≡ true)
 both_true true b h = (refl, h)
@@ -96,15 +93,6 @@ module _ (all : List Spot) where
       ∙ ap (λ s. first_fault all (seen_from (at + 1) s rest)) (inner_step c b n l k.0)
       ∙ no_fault ls (at + 1) (capped (n + 1)) (c + 1) (b + line_bytes l) k.1 le
 
-  in_form : (ls : List UnitLine) (at n c b : ℕ) → list_all is_inner ls ≡ true → list_all (keeps_form all) (seen_from at (inside c b) (inner_spots n ls)) ≡ true
-  in_form [] at n c b h = refl
-  in_form (l ∷ ls) at n c b h =
-      let k = both_true (is_inner l) (list_all is_inner ls) h in
-      let rest = inner_spots (capped (n + 1)) ls in
-      ap (λ t. t && list_all (keeps_form all) (seen_from (at + 1) (step (inside c b) (spot n l)) rest)) (inner_form all at c b n l rest k.0)
-      ∙ ap (λ s. list_all (keeps_form all) (seen_from (at + 1) s rest)) (inner_step c b n l k.0)
-      ∙ in_form ls (at + 1) (capped (n + 1)) (c + 1) (b + line_bytes l) k.1
-
 -- instructions behind inner lines and the closing one
 abbrev counts : List UnitLine → ℕ → ℕ
 counts [] c = c + 2
@@ -122,9 +110,6 @@ ended (l ∷ ls) n c b h =
 
 some : (c : ℕ) → 0 < c → (c == 0) ≡ false
 some c lt = grind (arith, nat_tests)
-
-above : (c : ℕ) → 0 < c → nat_lt 0 c ≡ true
-above c lt = grind (arith, nat_tests)
 
 -- the rows of a unit
 abbrev pub unit_spots : List UnitLine → List Spot
@@ -149,11 +134,6 @@ module _ (inner : List UnitLine) (h : list_all is_inner inner ≡ true) (short :
       ap (λ f. option_or f (end_fault 1 (state_after start all))) (passes all (seen_at 0 start (spot 1 Open) rest) (seen_from 1 (inside 1 5) rest) refl ∙ no_fault all inner 1 (capped (1 + 1)) 1 5 h fits)
       ∙ ap (λ s. end_fault 1 s) after
       ∙ ap (λ t. option_map (λ kind. record { file = 1; line = 0; kind = kind }) (if t then Some EmptyCode else None)) (some (counts inner 1) (counts-ge inner 1))
-
-  pub form_is : are_in_form all ≡ true
-  form_is =
-      ap (λ t. t && has_instruction (state_after start all)) (in_form all inner 1 (capped (1 + 1)) 1 5 h)
-      ∙ ap has_instruction after ∙ above (counts inner 1) (counts-ge inner 1)
 
   image_is : image_of all ≡ unit_image (Open ∷ (inner ++ Close ∷ []))
   image_is =

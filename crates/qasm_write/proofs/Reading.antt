@@ -1,30 +1,27 @@
 -- The text of a unit is read as its rows.
-use Rattle.std.proofs.Common.{◌≡◌, ℕ, ◌+◌, ◌^◌, ◌<◌, ◌≤◌, Bool, true, false, ◌&&◌, List, [], ◌∷◌, ◌++◌, length, append_assoc, Option, Some, Ok, refl, sym, ap, ◌∙◌, subst, arith}
-use Rattle.std.specs.Prelude.{codes, flat_map, map, not, ◌==◌, nat_lt, IsTrue, is_some, option_map, Result}
+use Rattle.std.proofs.Common.{◌≡◌, ℕ, ◌+◌, ◌^◌, ◌<◌, Bool, true, false, ◌&&◌, List, [], ◌∷◌, ◌++◌, append_assoc, Ok, refl, sym, ap, ◌∙◌, arith}
+use Rattle.std.specs.Prelude.{codes, map, not, ◌==◌, nat_lt}
 use Rattle.std.specs.Fmt.{decimal}
 use Rattle.std.specs.List.{list_all}
 use Rattle.std.proofs.lemmas.Bool.Decides.{nat_tests}
 use Rattle.std.proofs.lemmas.List.Folds.{list_all-append}
 use Rattle.qv_base.specs.Place.{capped}
 use Rattle.qv_ops.specs.declared.op.Op.TheVariants.{Const}
-use Rattle.qv_image.specs.Image.{Qvm}
-use Rattle.asm_line.specs.Row.{Row, constant, Nothing, One}
-use Rattle.asm_line.specs.Operand.{number_of}
-use Rattle.asm_line.specs.FirstForm.{first_row}
+use Rattle.asm_line.specs.Row.{One}
+use Rattle.asm_line.specs.Operand.{pieces}
+use Rattle.asm_line.specs.Read.{read_row, with_ok, good}
 use Rattle.asm_line.specs.Text.{lines_of, words_of}
-use Rattle.asm_line.proofs.Numbers.{decimal_word, decimal_no_line_feed, decimal_some, number_of-decimal}
+use Rattle.asm_line.proofs.Numbers.{decimal_word, decimal_no_line_feed, decimal_some, expression-decimal}
 use Rattle.asm_line.proofs.Text.{lines_of-nil, lines_of-line, words_of-nil, words_of-last, words_of-word-blank}
-use Rattle.asm_link.specs.declared.fault.AsmFault.{AsmFault}
-use Rattle.asm_link.specs.Spot.{Spot, file_spots, spots_of, entry_of_row, FileEnd}
-use Rattle.asm_link.specs.FirstForm.{is_first_line, is_first_form, are_in_form}
+use Rattle.asm_link.specs.Spot.{file_spots, spots_of, entry_of_row, FileEnd}
 use Rattle.asm_link.specs.Link.{linked, unless_fault, fault_in}
 use Rattle.asm_link.specs.Image.{image_of}
 use Rattle.qasm_write.specs.declared.line.UnitLine.{UnitLine}
 use Rattle.qasm_write.specs.declared.line.UnitLine.TheVariants.{Open, Parameter, Load, Constant, Add, Subtract, Return, Close}
 use Rattle.qasm_write.specs.Text.{line_text, unit_text}
 use Rattle.qasm_write.specs.Unit.{constant_fits, is_inner, unit_image, IsUnit}
-use Rattle.qasm_write.proofs.Rows.{row_of, spot, end_spots, inner_spots}
-use Rattle.qasm_write.proofs.Linked.{unit_spots, form_is, linked_is}
+use Rattle.qasm_write.proofs.Rows.{row_of, spot, inner_spots}
+use Rattle.qasm_write.proofs.Linked.{unit_spots, linked_is}
 
 small : (m : ℕ) → nat_lt m (2 ^ 32) ≡ true → m < 2 ^ 32
 small m h = grind (arith, nat_tests)
@@ -64,13 +61,13 @@ constant_words n lt =
     words_of-word-blank (codes "CNSTI4") 32 (decimal n) (omega arith) refl refl
     ∙ ap (λ ws. codes "CNSTI4" ∷ ws) (words_of-last (decimal n) (decimal_some n big) (decimal_word n big))
 
-row_read : (l : UnitLine) → constant_fits l ≡ true → first_row (words_of (line_text l)) ≡ Some (row_of l)
-unfolding words_of
+row_read : (l : UnitLine) → constant_fits l ≡ true → read_row (words_of (line_text l)) ≡ Ok (row_of l)
+unfolding words_of pieces
 row_read Open h = refl
 row_read Parameter h = refl
 row_read Load h = refl
 row_read (Constant n) h =
-    ap first_row (constant_words n (small n h)) ∙ ap (λ o. option_map (λ m. One Const (constant m)) o) (number_of-decimal n (small n h))
+    ap read_row (constant_words n (small n h)) ∙ ap (λ o. with_ok (λ e. One Const e) (good o [])) (expression-decimal n (small n h))
 row_read Add h = refl
 row_read Subtract h = refl
 row_read Return h = refl
@@ -85,8 +82,8 @@ lines_cut (l ∷ ls) h =
 -- inner lines, the closing one and the empty line behind it
 inner_read : (n : ℕ) (ls : List UnitLine) → list_all is_inner ls ≡ true → file_spots 0 n (map line_text (ls ++ Close ∷ []) ++ [] ∷ []) [] ≡ inner_spots n ls
 inner_read n [] h =
-    ap (λ r. record { file = 0; line = n; entry = entry_of_row r } ∷ record { file = 0; line = capped (n + 1); entry = entry_of_row (first_row (words_of [])) } ∷ record { file = 0; line = capped (capped (n + 1) + 1); entry = FileEnd } ∷ []) (row_read Close refl)
-    ∙ ap (λ ws. spot n Close ∷ record { file = 0; line = capped (n + 1); entry = entry_of_row (first_row ws) } ∷ record { file = 0; line = capped (capped (n + 1) + 1); entry = FileEnd } ∷ []) words_of-nil
+    ap (λ r. record { file = 0; line = n; entry = entry_of_row r } ∷ record { file = 0; line = capped (n + 1); entry = entry_of_row (read_row (words_of [])) } ∷ record { file = 0; line = capped (capped (n + 1) + 1); entry = FileEnd } ∷ []) (row_read Close refl)
+    ∙ ap (λ ws. spot n Close ∷ record { file = 0; line = capped (n + 1); entry = entry_of_row (read_row ws) } ∷ record { file = 0; line = capped (capped (n + 1) + 1); entry = FileEnd } ∷ []) words_of-nil
 inner_read n (l ∷ ls) h =
     let k = both_true (is_inner l) (list_all is_inner ls) h in
     ap (λ r. record { file = 0; line = n; entry = entry_of_row r } ∷ file_spots 0 (capped (n + 1)) (map line_text (ls ++ Close ∷ []) ++ [] ∷ []) []) (row_read l (inner_fits l k.0))
@@ -104,15 +101,6 @@ spots_are inner h =
     ∙ ap (λ r. record { file = 0; line = 1; entry = entry_of_row r } ∷ file_spots 0 (capped (1 + 1)) (map line_text (inner ++ Close ∷ []) ++ [] ∷ []) []) (row_read Open refl)
     ∙ ap (λ xs. spot 1 Open ∷ xs) (inner_read (capped (1 + 1)) inner h)
 
-first_line : (l : UnitLine) → constant_fits l ≡ true → is_first_line (line_text l) ≡ true
-first_line l h = ap is_some (row_read l h)
-
-first_lines : (ls : List UnitLine) → list_all constant_fits ls ≡ true → list_all is_first_line (map line_text ls ++ [] ∷ []) ≡ true
-first_lines [] h = ap (λ ws. is_some (first_row ws) && true) words_of-nil
-first_lines (l ∷ ls) h =
-    let k = both_true (constant_fits l) (list_all constant_fits ls) h in
-    both (is_first_line (line_text l)) (list_all is_first_line (map line_text ls ++ [] ∷ [])) (first_line l k.0) (first_lines ls k.1)
-
 module _ (lines : List UnitLine) (u : IsUnit lines) where
   abbrev whole : List UnitLine
   whole = Open ∷ (u.inner ++ Close ∷ [])
@@ -120,16 +108,7 @@ module _ (lines : List UnitLine) (u : IsUnit lines) where
   whole_linked : linked (unit_text whole ∷ []) ≡ Ok (unit_image whole)
   whole_linked = ap (λ xs. unless_fault (fault_in 1 xs) (image_of xs)) (spots_are u.inner u.are_inner) ∙ linked_is u.inner u.are_inner u.short
 
-  whole_form : is_first_form (unit_text whole ∷ []) ≡ true
-  whole_form =
-      both (list_all is_first_line (lines_of (unit_text whole))) (are_in_form (spots_of (unit_text whole ∷ [])))
-      (ap (list_all is_first_line) (lines_cut whole (all_fit u.inner u.are_inner)) ∙ first_lines whole (all_fit u.inner u.are_inner))
-      (ap are_in_form (spots_are u.inner u.are_inner) ∙ form_is u.inner u.are_inner u.short)
-
--- the text of a unit is linked to its code, and it is of the first form
+-- the text of a unit is linked to its code
 pub unit_linked : (lines : List UnitLine) (text : List ℕ) → IsUnit lines → text ≡ unit_text lines → linked (text ∷ []) ≡ Ok (unit_image lines)
 unit_linked lines text u is =
     ap (λ t. linked (t ∷ [])) (is ∙ ap unit_text u.lines_are) ∙ whole_linked lines u ∙ ap (λ ls. Ok (unit_image ls)) (sym u.lines_are)
-
-pub unit_form : (lines : List UnitLine) (text : List ℕ) → IsUnit lines → text ≡ unit_text lines → IsTrue (is_first_form (text ∷ []))
-unit_form lines text u is = ap (λ t. is_first_form (t ∷ [])) (is ∙ ap unit_text u.lines_are) ∙ whole_form lines u

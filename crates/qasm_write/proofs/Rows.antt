@@ -1,23 +1,18 @@
 -- The rows of a unit's lines, and what a linker makes of each.
-use Rattle.std.proofs.Common.{◌≡◌, ℕ, zero, suc, ◌+◌, ◌*◌, ◌%◌, ◌^◌, ◌<◌, ◌≤◌, Bool, true, false, ◌&&◌, List, [], ◌∷◌, ◌++◌, length, Option, Some, None, refl, sym, ap, ◌∙◌, subst, arith}
-use Rattle.std.specs.Prelude.{codes, nat_lt, if◌then◌else◌, flat_map}
-use Rattle.std.specs.Option.{option_or}
-use Rattle.std.specs.List.{list_all}
+use Rattle.std.proofs.Common.{◌≡◌, ℕ, ◌+◌, ◌^◌, ◌<◌, ◌≤◌, true, false, List, [], ◌∷◌, Some, None, refl, ap, arith}
+use Rattle.std.specs.Prelude.{codes, nat_lt, if◌then◌else◌}
 use Rattle.std.proofs.Math.Nat.{mod-eq_of_lt}
 use Rattle.std.proofs.lemmas.Bool.Decides.{nat_tests}
 use Rattle.qv_base.specs.Place.{capped}
-use Rattle.qv_ops.specs.declared.instr.Instr.{Instr}
 use Rattle.qv_ops.specs.declared.op.Op.TheVariants.{Const, Load4, Add as AddOp, Sub}
 use Rattle.asm_line.specs.Row.{Row, constant, Nothing, Proc, EndProc, One, Ret, ParamAt}
 use Rattle.asm_line.specs.declared.line.AsmSegment.{AsmSegment}
 use Rattle.asm_line.specs.declared.line.AsmSegment.TheVariants.{Code, Data, Lit, Bss}
-use Rattle.asm_link.specs.declared.fault.AsmKind.{AsmKind}
 use Rattle.asm_link.specs.declared.fault.AsmKind.TheVariants.{CodeTooLarge}
-use Rattle.asm_link.specs.Spot.{Spot, Entry, Read, FileEnd}
+use Rattle.asm_link.specs.Spot.{Spot, Read, FileEnd}
 use Rattle.asm_link.specs.State.{Before, step}
 use Rattle.asm_link.specs.Names.{Seen}
-use Rattle.asm_link.specs.Faults.{kind_at, code_too_large}
-use Rattle.asm_link.specs.FirstForm.{keeps_form}
+use Rattle.asm_link.specs.Faults.{kind_at}
 use Rattle.asm_link.specs.Image.{instrs_at, bytes_at}
 use Rattle.qasm_write.specs.declared.line.UnitLine.{UnitLine}
 use Rattle.qasm_write.specs.declared.line.UnitLine.TheVariants.{Open, Parameter, Load, Constant, Add, Subtract, Return, Close}
@@ -111,16 +106,6 @@ inner_kind all at c b n Add behind h le = not_large (b + 1) le
 inner_kind all at c b n Subtract behind h le = not_large (b + 1) le
 inner_kind all at c b n Return behind h le = not_large (b + 5) le
 inner_kind all at c b n Close behind h le = absurd (cc)
-
-pub inner_form : (all : List Spot) (at c b n : ℕ) (l : UnitLine) (behind : List Spot) → is_inner l ≡ true → keeps_form all (seen_at at (inside c b) (spot n l) behind) ≡ true
-inner_form all at c b n Open behind h = absurd (cc)
-inner_form all at c b n Parameter behind h = refl
-inner_form all at c b n Load behind h = refl
-inner_form all at c b n (Constant m) behind h = refl
-inner_form all at c b n Add behind h = refl
-inner_form all at c b n Subtract behind h = refl
-inner_form all at c b n Return behind h = refl
-inner_form all at c b n Close behind h = absurd (cc)
 
 pub no_bytes : (all : List Spot) (segment : AsmSegment) (at : ℕ) (s : Before) (n : ℕ) (l : UnitLine) (behind : List Spot) → bytes_at all segment (seen_at at s (spot n l) behind) ≡ []
 no_bytes all Code at s n Open behind = refl

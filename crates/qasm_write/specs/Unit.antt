@@ -1,5 +1,5 @@
 -- What the lines of a unit stand for.
-use Rattle.std.specs.Prelude.{◌≡◌, ℕ, ◌+◌, ◌^◌, ◌≤◌, Bool, true, false, nat_lt, IsTrue, List, [], ◌∷◌, ◌++◌, length, flat_map}
+use Rattle.std.specs.Prelude.{◌≡◌, ℕ, ◌^◌, ◌≤◌, Bool, true, false, nat_lt, IsTrue, List, [], ◌∷◌, ◌++◌, length, flat_map}
 use Rattle.std.specs.List.{list_all}
 use Rattle.qv_ops.specs.declared.instr.Instr.{Instr}
 use Rattle.qv_ops.specs.declared.op.Op.{Op}

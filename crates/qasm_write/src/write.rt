@@ -1,6 +1,5 @@
 // Writes lines as text.
-ghost use Rattle.std.specs.Prelude.{◌≡◌, ◌++◌, IfOk, OnOk, IsTrue, Ok, [], ◌∷◌};
-ghost use Rattle.asm_link.specs.FirstForm.{is_first_form};
+ghost use Rattle.std.specs.Prelude.{◌≡◌, ◌++◌, IfOk, OnOk, Ok, [], ◌∷◌};
 ghost use Rattle.asm_link.specs.Link.{linked};
 ghost use Rattle.qasm_write.specs.Text.{line_text, unit_text};
 ghost use Rattle.qasm_write.specs.Unit.{IsUnit, unit_image};
@@ -17,7 +16,6 @@ use std::alloc::Global;
 pub fn write_unit(alloc: Global, lines: &[UnitLine]) -> Result<Vec<u8>, NoMemory>
     requires { IsUnit lines.now }
     ensures text { IfOk result (λ text. text.items ≡ unit_text lines.now) }
-    ensures form { IfOk result (λ text. IsTrue (is_first_form (text.items ∷ []))) }
     ensures links { IfOk result (λ text. linked (text.items ∷ []) ≡ Ok (unit_image lines.now)) }
 {
     let mut text = Vec::new(alloc);

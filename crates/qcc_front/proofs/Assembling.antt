@@ -1,9 +1,8 @@
 -- The text of a unit's lines is linked to an image that follows the unit.
-use Rattle.std.proofs.Common.{◌≡◌, ℕ, ◌+◌, ◌*◌, ◌^◌, ◌<◌, ◌≤◌, Bool, true, false, ◌&&◌, List, [], ◌∷◌, ◌++◌, length, append_assoc, refl, sym, ap, ◌∙◌, arith, length-append}
-use Rattle.std.specs.Prelude.{IsTrue, Ok}
+use Rattle.std.proofs.Common.{◌≡◌, ℕ, ◌*◌, ◌<◌, ◌≤◌, Bool, true, false, ◌&&◌, List, [], ◌∷◌, ◌++◌, length, append_assoc, refl, sym, ap, ◌∙◌, arith, length-append}
+use Rattle.std.specs.Prelude.{Ok}
 use Rattle.std.specs.List.{list_all, flat_map}
 use Rattle.std.proofs.lemmas.List.Folds.{list_all-append}
-use Rattle.asm_link.specs.FirstForm.{is_first_form}
 use Rattle.asm_link.specs.Link.{linked}
 use Rattle.qasm_write.specs.declared.line.UnitLine.{UnitLine}
 use Rattle.qasm_write.specs.declared.line.UnitLine.TheVariants.{Open, Return, Close}
@@ -17,7 +16,7 @@ use Rattle.qcc_front.specs.Assembles.{Assembles}
 use Rattle.qcc_front.specs.Sum.{Sum}
 use Rattle.qcc_front.specs.Translation.{term_lines, sign_line, signed_lines, sum_lines, unit_lines}
 use Rattle.qcc_front.proofs.UnitCode.{unit_image, image_is}
-use Rattle.qcc_front.proofs.CodeFacts.{unit_served, unit_short}
+use Rattle.qcc_front.proofs.CodeFacts.{unit_short}
 use Rattle.qcc_front.proofs.UnitRuns.{follows}
 
 both_true : (a b : Bool) → (a && b) ≡ true → (a ≡ true) × (b ≡ true)
@@ -74,12 +73,10 @@ is_unit e lines is fit few =
       short = omega (arith, few, length-append (sum_lines e) (Return ∷ []), length-append (term_lines e.first) (flat_map signed_lines e.rest), term_short e.first, rest_short e.rest);
     }
 
-pub assembles : (e : Sum) (lines : List UnitLine) (text : List ℕ) → lines ≡ unit_lines e → IsTrue (is_first_form (text ∷ [])) → linked (text ∷ []) ≡ Ok (lines_image lines) → Assembles e text
-assembles e lines text is form links = record {
+pub assembles : (e : Sum) (lines : List UnitLine) (text : List ℕ) → lines ≡ unit_lines e → linked (text ∷ []) ≡ Ok (lines_image lines) → Assembles e text
+assembles e lines text is links = record {
   image = unit_image e;
-  form = form;
   links = links ∙ ap (λ ls. Ok (lines_image ls)) is ∙ ap Ok (image_is e);
   follows = follows e;
-  served = unit_served e;
   small = unit_short e;
 }

@@ -5,7 +5,7 @@ use Rattle.std.specs.Prelude.{slice_get}
 use Rattle.qv_ops.specs.declared.instr.Instr.{Instr}
 use Rattle.qv_ops.specs.declared.op.Op.TheVariants.{Const, Local, Load4}
 use Rattle.qv_outside.specs.Hosts.{Table}
-use Rattle.vm_core.specs.Memory.{load4}
+use Rattle.masked_mem.specs.Memory.{load4}
 use Rattle.vm_core.specs.Machine.{State, Turn, Goes, act, turn}
 use Rattle.vm_core.proofs.Goes.{HasAt, has_front, has_back, GoesIn, joined, turn_is, pushed_goes}
 use Rattle.qcc_front.specs.declared.sum.Term.{Term}

@@ -1,12 +1,11 @@
 -- The instructions of a unit of the first form.
-use Rattle.std.proofs.Common.{◌≡◌, ℕ, List, [], ◌∷◌, ◌++◌, append_assoc, refl, sym, ap, ◌∙◌}
+use Rattle.std.proofs.Common.{◌≡◌, List, [], ◌∷◌, ◌++◌, refl, ap, ◌∙◌}
 use Rattle.std.specs.List.{flat_map}
 use Rattle.std.proofs.lemmas.Grind.{flat_map-append}
 use Rattle.qv_ops.specs.declared.instr.Instr.{Instr}
 use Rattle.qv_ops.specs.declared.op.Op.{Op}
 use Rattle.qv_ops.specs.declared.op.Op.TheVariants.{Enter, Leave, Push, Const, Local, Load4, Add as AddOp, Sub}
 use Rattle.qv_image.specs.Image.{Qvm}
-use Rattle.qasm_write.specs.declared.line.UnitLine.{UnitLine}
 use Rattle.qasm_write.specs.declared.line.UnitLine.TheVariants.{Return, Close}
 use Rattle.qasm_write.specs.Unit.{instr, line_code, unit_image as lines_image}
 use Rattle.qcc_front.specs.declared.sum.Term.{Term}

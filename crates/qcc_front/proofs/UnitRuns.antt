@@ -9,18 +9,19 @@ use Rattle.std.proofs.Math.Nat.{mod-eq_of_lt}
 use Rattle.qv_outside.specs.Event.{Event, Reply}
 use Rattle.qv_outside.specs.Hosts.{Table}
 use Rattle.vm_core.specs.declared.stop.Stop.TheVariants.{Returned, StackOver, StackUnder}
-use Rattle.vm_core.specs.Memory.{load4, with_frame, block_size, doubled}
-use Rattle.vm_core.specs.Machine.{State, Turn, Goes, Stops, turn, act, entered, left, gone_back, returned, bottom, Ending, Going, Stopped, End, runs, started, fresh_memory}
+use Rattle.masked_mem.specs.Memory.{load4}
+use Rattle.vm_core.specs.Memory.{with_frame, block_size, doubled}
+use Rattle.vm_core.specs.Machine.{State, Turn, Goes, Stops, turn, entered, left, gone_back, returned, bottom, Going, Stopped, End, runs, started, fresh_memory}
 use Rattle.vm_core.specs.Calls.{CallsEnd, Came, Ended, with_calls, on_end, calls_run, image_run}
 use Rattle.vm_core.proofs.Goes.{HasAt, has_front, has_back, has_all, GoesIn, turn_is, goes_on, stops_behind}
 use Rattle.vm_core.proofs.Frame.{frame_word, length-frame}
 use Rattle.vm_core.proofs.CallLaws.{nothing_left, one_more}
-use Rattle.qv_ops.specs.declared.op.Op.TheVariants.{Enter, Leave, Push}
+use Rattle.qv_ops.specs.declared.op.Op.TheVariants.{Enter, Leave}
 use Rattle.qcc_front.specs.Source.{Done}
 use Rattle.qcc_front.specs.Sum.{Sum, value, sum_run}
 use Rattle.qasm_write.specs.Unit.{instr}
 use Rattle.qcc_front.proofs.UnitCode.{sum_code, end_code, unit_code, unit_image}
-use Rattle.qcc_front.specs.Follows.{IsCall, EndsWith, Reaches, Within, EndsAs, Follows}
+use Rattle.qcc_front.specs.Follows.{IsCall, EndsWith, Within, EndsAs, Follows}
 use Rattle.qcc_front.proofs.SumRuns.{at, sum_goes}
 
 not_below : (a b : ℕ) → b ≤ a → nat_lt a b ≡ false
