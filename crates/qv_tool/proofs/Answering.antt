@@ -1,5 +1,5 @@
 -- What a call of the tool answers, by what the command reported and how the put of the line went.
-use Rattle.std.proofs.Common.{◌≡◌, ℕ, List, ◌++◌, Option, Some, None, Ok, Err, ◌⊎◌, inl, inr, refl, sym, ap, ◌∙◌, subst}
+use Rattle.std.proofs.Common.{◌≡◌, ℕ, List, Option, Some, None, Ok, Err, ◌⊎◌, inl, inr, refl, sym, ◌∙◌, subst}
 use Rattle.std.specs.Prelude.{IfSome, codes}
 use Rattle.qv_base.specs.declared.NoMemory.{NoMemory as Wanting}
 use Rattle.qv_outside.specs.Causes.{Rose}
@@ -8,20 +8,21 @@ use Rattle.qv_outside.specs.Hosts.{Table}
 use Rattle.qv_outside.specs.Told.{Appends}
 use Rattle.qv_tool.specs.declared.report.Report.{Report}
 use Rattle.qv_tool.specs.declared.status.Status.{Status}
-use Rattle.qv_tool.specs.declared.status.Status.TheVariants.{Done, Missing, NotYet, Assembly, Stopped, Budget, ReadFault, WriteFault, NoMemory}
-use Rattle.qv_tool.specs.Answers.{Completed, Completes, LineFailed, ReadFailed, Refused, Refuses, Reports, TornFile, WriteFailed, Wrote}
+use Rattle.qv_tool.specs.declared.status.Status.TheVariants.{Done, Usage, Missing, NotYet, Assembly, Image, Stopped, Budget, ReadFault, WriteFault, NoMemory}
+use Rattle.qv_tool.specs.Answers.{Completed, Completes, LineFailed, ReadFailed, Refused, Refuses, Reports, WriteFailed}
 use Rattle.qv_tool.specs.Ending.{line}
 use Rattle.qv_tool.specs.Said.{Said}
-use Rattle.qv_tool.specs.Verdict.{Verdict, Unready, Absent, TooLong, Unlinked, Compiles, Links, Runs, Builds, IsCalledFor, IsEnd, IsFault, IsRefusal, Refusal, refusal_of, verdict}
-use Rattle.qv_tool.specs.Words.{Command}
+use Rattle.qv_tool.specs.Verdict.{Verdict, Compiles, Disassembles, Links, Runs, Builds, IsCalledFor, IsEnd, IsFault, IsRefusal, Refusal, refusal_of, verdict}
+use Rattle.qv_words.specs.Words.{Command}
 use Rattle.qv_tool.specs.Work.{Works}
 
 module _ (table : Table) (c : Option Command) (failed : Option (List ℕ)) (old : FileMap) (new : Option FileMap) (text : List ℕ) where
   completes_called : (v : Verdict) (status : Status) → IsEnd status → Completes table old new text status v → IsCalledFor (refusal_of v) status
   completes_called (Compiles name e) status end completes = end
   completes_called (Links image z) status end completes = end
-  completes_called (Runs steps args z) status end completes = end
-  completes_called (Builds steps args image e) status end completes = end
+  completes_called (Disassembles file z) status end completes = end
+  completes_called (Runs steps calls z) status end completes = end
+  completes_called (Builds steps calls image e) status end completes = end
   completes_called v status end completes = absurd completes
 
   refused_called : (v : Verdict) (status : Status) → Refuses v old new status text → IsCalledFor (refusal_of v) status
@@ -32,9 +33,11 @@ module _ (table : Table) (c : Option Command) (failed : Option (List ℕ)) (old 
   reported Done reports = inl (completes_called (verdict old c) Done tt reports)
   reported Stopped reports = inl (completes_called (verdict old c) Stopped tt reports)
   reported Budget reports = inl (completes_called (verdict old c) Budget tt reports)
+  reported Usage reports = inl (refused_called (verdict old c) Usage reports)
   reported NotYet reports = inl (refused_called (verdict old c) NotYet reports)
   reported Missing reports = inl (refused_called (verdict old c) Missing reports)
   reported Assembly reports = inl (refused_called (verdict old c) Assembly reports)
+  reported Image reports = inl (refused_called (verdict old c) Image reports)
   reported ReadFault reports = inr tt
   reported WriteFault reports = inr tt
   reported NoMemory reports = inr tt
@@ -46,9 +49,11 @@ module _ (table : Table) (c : Option Command) (failed : Option (List ℕ)) (old 
   ends status end reports = absurd end
 
   refuses : (status : Status) → IsRefusal status → Reports table c old new failed text status → Refuses (verdict old c) old new status text
+  refuses Usage refusal reports = reports
   refuses NotYet refusal reports = reports
   refuses Missing refusal reports = reports
   refuses Assembly refusal reports = reports
+  refuses Image refusal reports = reports
   refuses status refusal reports = absurd refusal
 
   module _ (reads_before reads_after writes_before writes_after puts_before puts_after : ℕ) (before after : Option (List ℕ)) (status result : Status) (reports : Reports table c old new failed text status) where

@@ -1,41 +1,107 @@
--- What an assembly file that isn't linked comes to.
-use Rattle.std.proofs.Common.{◌≡◌, ℕ, List, [], ◌∷◌, ◌++◌, Option, Some, None, Ok, Err, inl, inr, refl, sym, ap, ◌∙◌, subst, ⊎_elim}
-use Rattle.std.specs.Prelude.{Result, IfOk, IfSome, ◌⊎◌, codes}
+-- What files of assembly come to.
+use Rattle.std.proofs.Common.{◌≡◌, ℕ, List, [], ◌∷◌, Option, Some, None, Ok, Err, inl, inr, refl, sym, ap, ◌∙◌, subst, ⊎_elim}
+use Rattle.std.specs.Prelude.{Contains, Result, IfOk, IfSome, ◌⊎◌}
 use Rattle.std.specs.Global.{Vec}
+use Rattle.std.proofs.lemmas.List.Elements.{Contains-append_right}
 use Rattle.qv_base.specs.declared.NoMemory.{NoMemory as Wanting}
-use Rattle.qv_outside.specs.FileMap.{FileMap, Reads}
+use Rattle.qv_outside.specs.FileMap.{FileMap, Reads, content}
 use Rattle.qv_outside.specs.Hosts.{Table}
-use Rattle.asm_link.specs.FirstForm.{answer_of}
+use Rattle.asm_link.specs.Link.{linked}
 use Rattle.asm_link.specs.declared.fault.AsmFault.{AsmFault}
 use Rattle.asm_link.specs.declared.fault.AsmKind.{AsmKind}
-use Rattle.asm_link.specs.declared.fault.AsmKind.TheVariants.{NotYet as AsmNotYet, NoMemory as LinkNoMemory}
+use Rattle.asm_link.specs.declared.fault.AsmKind.TheVariants.{BadList, NoMemory as LinkNoMemory}
 use Rattle.qv_tool.specs.declared.report.Report.{Report}
-use Rattle.qv_tool.specs.declared.status.Status.TheVariants.{Assembly, NotYet}
+use Rattle.qv_tool.specs.declared.status.Status.TheVariants.{Assembly}
 use Rattle.qv_tool.specs.Assembly.{fault_text}
 use Rattle.qv_tool.specs.Ending.{line}
-use Rattle.qv_tool.specs.Verdict.{Verdict, of_fault, of_linked, refusal_of}
-use Rattle.qv_tool.specs.Words.{Command, Q3asm}
-use Rattle.qv_tool.specs.Work.{SaysUnlinked, Works}
-use Rattle.qv_tool.proofs.Working.{refused_works, wanting_works}
+use Rattle.qv_tool.specs.Gathered.{Found, gathered}
+use Rattle.qv_tool.specs.Names.{names_in}
+use Rattle.qv_tool.specs.Task.{Task, Assemble, AssembleList, task_of}
+use Rattle.qv_tool.specs.Verdict.{Verdict, Unlinked, listed, listed_in, name_at, of_gathered, of_linked, of_list, of_task, read_for, verdict}
+use Rattle.qv_tool.specs.Work.{Asks, IsRefused, Says, SaysUnlinked, Works}
+use Rattle.qv_tool.proofs.Working.{absent_works, along, if_told, read_failed_works, read_goes, refused_works, too_long_works, wanting_works}
+use Rattle.qv_words.specs.Words.{Command}
 
-module _ (table : Table) (image file : List ℕ) (source : Vec ℕ) (old new : Option FileMap) (failed : Option (List ℕ)) (fault : AsmFault) (reads : Reads old new file (Ok source)) where
-  abbrev go : List ℕ → Verdict
-  go bytes = of_linked image file (answer_of (bytes ∷ []))
+module _ (table : Table) (c : Command) (image : List ℕ) (names : List (List ℕ)) where
+  abbrev go : List (List ℕ) → Verdict
+  go texts = of_linked image names (linked texts)
 
-  -- the verdict on a file with this fault
-  verdict_is : (kind : AsmKind) → fault.kind ≡ kind → answer_of (source.items ∷ []) ≡ Err fault → go source.items ≡ of_fault file kind fault
-  verdict_is kind e answer = ap (of_linked image file) answer ∙ ap (λ k. of_fault file k fault) e
+  refused : (old : FileMap) (new : Option FileMap) (failed : Option (List ℕ)) (report : Report) → new ≡ Some old → Asks c image names old → IsRefused old failed names report → Works table (Some c) old new failed (Ok report)
+  refused old new failed report stays asks (inl (name, is, says)) = absent_works table (Some c) old new failed name report (asks.verdict_is ∙ ap (of_gathered go) is) stays says
+  refused old new failed report stays asks (inr (inl (name, is, says))) = too_long_works table (Some c) old new failed name report (asks.verdict_is ∙ ap (of_gathered go) is) stays says
+  refused old new failed report stays asks (inr (inr (name, one, named, says))) = read_failed_works table (Some c) old new failed name report (asks.needs name one) named stays says
 
-  not_wanting : (kind : AsmKind) → fault.kind ≡ kind → (kind ≡ LinkNoMemory → ⊥) → (fault.kind ≡ LinkNoMemory) ⊎ (answer_of (source.items ∷ []) ≡ Err fault) → answer_of (source.items ∷ []) ≡ Err fault
-  not_wanting kind e apart answers = ⊎_elim (λ wanting. absurd (apart (sym e ∙ wanting))) (λ answer. answer) answers
+  -- one of the files was refused
+  pub unfound_works : (old new : Option FileMap) (failed : Option (List ℕ)) (report : Report) → new ≡ old → IfSome old (λ held. IsRefused held failed names report) → IfSome old (λ held. Asks c image names held → Works table (Some c) held new failed (Ok report))
+  unfound_works None new failed report stays is = tt
+  unfound_works (Some old) new failed report stays is = λ asks. refused old new failed report stays asks is
 
-  by_kind : (kind : AsmKind) (report : Report) → fault.kind ≡ kind → (fault.kind ≡ LinkNoMemory) ⊎ (answer_of (source.items ∷ []) ≡ Err fault) → SaysUnlinked file kind fault report → IfSome old (λ held. Works table (Some (Q3asm image file)) held new failed (Ok report))
-  by_kind AsmNotYet report e answers says =
-      refused_works table (Some (Q3asm image file)) file go refl (λ held. refl) source old new failed NotYet (line (codes "not yet")) (Ok report) reads tt (ap refusal_of (verdict_is AsmNotYet e (not_wanting AsmNotYet e (λ p. cc) answers))) says
-  by_kind LinkNoMemory report e answers says = absurd says
-  by_kind kind report e answers says =
-      refused_works table (Some (Q3asm image file)) file go refl (λ held. refl) source old new failed Assembly (line (fault_text file fault.line fault.kind)) (Ok report) reads tt (ap refusal_of (verdict_is kind e (not_wanting kind e (λ p. cc) answers))) says
+  pub where_asks : (old : Option FileMap) (W : FileMap → Type 0) → (IfSome old (λ held. Asks c image names held) → IfSome old W) → IfSome old (λ held. Asks c image names held → W held)
+  where_asks None W h = tt
+  where_asks (Some held) W h = h
 
-  pub unlinked_works : (result : Result Report Wanting) → (fault.kind ≡ LinkNoMemory) ⊎ (answer_of (source.items ∷ []) ≡ Err fault) → IfOk result (λ report. SaysUnlinked file fault.kind fault report) → IfSome old (λ held. Works table (Some (Q3asm image file)) held new failed result)
-  unlinked_works (Err wanting) answers says = wanting_works table (Some (Q3asm image file)) file go refl (λ held. refl) source old new failed wanting reads
-  unlinked_works (Ok report) answers says = by_kind fault.kind report refl answers says
+  -- all were read
+  pub found_goes : (old : Option FileMap) (texts : List (List ℕ)) → IfSome old (λ held. gathered held names ≡ Found texts) → IfSome old (λ held. Asks c image names held) → IfSome old (λ held. verdict held (Some c) ≡ go texts)
+  found_goes None texts is asks = tt
+  found_goes (Some old) texts is asks = asks.verdict_is ∙ ap (of_gathered go) is
+
+  -- they aren't linked
+  module _ (texts : List (List ℕ)) (old mid : Option FileMap) (failed : Option (List ℕ)) (fault : AsmFault) (goes : IfSome old (λ held. verdict held (Some c) ≡ go texts)) (stays : mid ≡ old) where
+    told : (report : Report) → linked texts ≡ Err fault → Says Assembly (line (fault_text (name_at names fault.file) fault.line fault.kind)) report → IfSome old (λ held. Works table (Some c) held mid failed (Ok report))
+    told report answer says =
+        refused_works table (Some c) (Unlinked (name_at names fault.file) fault) old mid failed Assembly (line (fault_text (name_at names fault.file) fault.line fault.kind)) (Ok report) (along old (λ held h. h ∙ ap (of_linked image names) answer) goes) stays tt refl says
+
+    not_wanting : (kind : AsmKind) → fault.kind ≡ kind → (kind ≡ LinkNoMemory → ⊥) → (fault.kind ≡ LinkNoMemory) ⊎ (linked texts ≡ Err fault) → linked texts ≡ Err fault
+    not_wanting kind e apart answers = ⊎_elim (λ wanting. absurd (apart (sym e ∙ wanting))) (λ answer. answer) answers
+
+    by_kind : (kind : AsmKind) (report : Report) → fault.kind ≡ kind → (fault.kind ≡ LinkNoMemory) ⊎ (linked texts ≡ Err fault) → SaysUnlinked (name_at names fault.file) kind fault report → IfSome old (λ held. Works table (Some c) held mid failed (Ok report))
+    by_kind LinkNoMemory report e answers says = absurd says
+    by_kind kind report e answers says = told report (not_wanting kind e (λ p. cc) answers) says
+
+    pub unlinked_works : (result : Result Report Wanting) → (fault.kind ≡ LinkNoMemory) ⊎ (linked texts ≡ Err fault) → IfOk result (λ report. SaysUnlinked (name_at names fault.file) fault.kind fault report) → IfSome old (λ held. Works table (Some c) held mid failed result)
+    unlinked_works (Err wanting) answers says = wanting_works table (Some c) old mid failed wanting stays
+    unlinked_works (Ok report) answers says = by_kind fault.kind report refl answers says
+
+-- files that the words name
+pub files_ask : (c : Command) (image : List ℕ) (names : List (List ℕ)) (held : FileMap) → task_of c ≡ Some (Assemble image names) → Asks c image names held
+files_ask c image names held asked = record {
+  verdict_is = ap (of_task held) asked;
+  needs = λ name one. let C : Option Task → Type 0 = λ t. Contains (read_for held t) name in subst C (sym asked) one;
+}
+
+-- the work on them
+pub files_work : (table : Table) (c : Command) (image : List ℕ) (names : List (List ℕ)) (old new : Option FileMap) (failed : Option (List ℕ)) (result : Result Report Wanting) → task_of c ≡ Some (Assemble image names) → IfSome old (λ held. Asks c image names held → Works table (Some c) held new failed result) →
+    IfSome old (λ held. Works table (Some c) held new failed result)
+files_work table c image names None new failed result asked works = tt
+files_work table c image names (Some old) new failed result asked works = works (files_ask c image names old asked)
+
+-- the list of `-f`
+module _ (table : Table) (c : Command) (image list : List ℕ) (asked : task_of c ≡ Some (AssembleList image list)) (source : Vec ℕ) where
+  list_asks : (held : FileMap) (names : List (List ℕ)) → verdict held (Some c) ≡ of_list held image list (names_in source.items) → content held list ≡ Some source.items → names_in source.items ≡ Ok names → Asks c image names held
+  list_asks held names is here e = record {
+    verdict_is = is ∙ ap (of_list held image list) e;
+    needs = λ name one.
+        let C : Option Task → Type 0 = λ t. Contains (read_for held t) name in
+        let L : Option (List ℕ) → Type 0 = λ b. Contains (list ∷ listed b) name in
+        let N : Result (List (List ℕ)) ℕ → Type 0 = λ r. Contains (list ∷ listed_in r) name in
+        subst C (sym asked) (subst L (sym here) (subst N (sym e) (Contains-append_right (list ∷ []) names name one)));
+  }
+
+  -- its names were read, and the files that they name are linked
+  pub list_works : (old mid new : Option FileMap) (failed : Option (List ℕ)) (names : List (List ℕ)) (result : Result Report Wanting) → IfSome old (λ held. verdict held (Some c) ≡ of_list held image list (names_in source.items)) → Reads old mid list (Ok source) → names_in source.items ≡ Ok names →
+      IfSome mid (λ held. Asks c image names held → Works table (Some c) held new failed result) → IfSome old (λ held. Works table (Some c) held new failed result)
+  list_works None mid new failed names result is reads e works = tt
+  list_works (Some old) mid new failed names result is reads e works =
+      let W : Option FileMap → Type 0 = λ m. IfSome m (λ held. Asks c image names held → Works table (Some c) held new failed result) in
+      let here : Asks c image names old → Works table (Some c) old new failed result = subst W reads.0 works in
+      here (list_asks old names is reads.1.0 e)
+
+  -- it is at fault
+  pub bad_list_works : (old mid : Option FileMap) (failed : Option (List ℕ)) (number : ℕ) (result : Result Report Wanting) → IfSome old (λ held. verdict held (Some c) ≡ of_list held image list (names_in source.items)) → mid ≡ old → names_in source.items ≡ Err number →
+      IfOk result (λ report. Says Assembly (line (fault_text list number BadList)) report) → IfSome old (λ held. Works table (Some c) held mid failed result)
+  bad_list_works old mid failed number result is stays e says =
+      refused_works table (Some c) (Unlinked list (record { file = 0; line = number; kind = BadList })) old mid failed Assembly (line (fault_text list number BadList)) result (along old (λ held h. h ∙ ap (of_list held image list) e) is) stays tt refl says
+
+  -- it was read: the verdict is that on its names
+  pub list_goes : (old mid : Option FileMap) → Reads old mid list (Ok source) → IfSome old (λ held. verdict held (Some c) ≡ of_list held image list (names_in source.items))
+  list_goes old mid reads = read_goes table (Some c) list (λ held bytes. of_list held image list (names_in bytes)) old mid source (if_told old (λ held. ap (of_task held) asked)) reads

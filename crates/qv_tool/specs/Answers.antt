@@ -1,19 +1,20 @@
 -- What holds after a command, and after a call of the tool, where the files are told.
-use Rattle.std.specs.Prelude.{◌≡◌, ℕ, ◌<◌, List, [], ◌∷◌, ◌++◌, codes, slice_index, Option, Some, ◌⊎◌}
+use Rattle.std.specs.Prelude.{◌≡◌, ℕ, ◌<◌, List, [], ◌++◌, Contains, codes, map, slice_index, Option, Some, ◌⊎◌}
 use Rattle.qv_image.specs.Image.{Qvm, IsImage, file_bytes}
 use Rattle.qv_outside.specs.Causes.{Rose}
 use Rattle.qv_outside.specs.FileMap.{FileMap, with_file, Torn}
 use Rattle.qv_outside.specs.Hosts.{Table}
 use Rattle.qv_outside.specs.Told.{Appends, AppendsPrefix}
 use Rattle.vm_core.specs.Calls.{image_run}
+use Rattle.qv_dis.specs.Text.{disassembly}
 use Rattle.qcc_front.specs.Assembles.{Assembles}
 use Rattle.qcc_front.specs.Follows.{Follows}
 use Rattle.qcc_front.specs.Sum.{Sum, sum_run, value}
 use Rattle.qv_tool.specs.declared.status.Status.{Status}
-use Rattle.qv_tool.specs.declared.status.Status.TheVariants.{Done, Missing, NotYet, Assembly, Stopped, Budget, ReadFault, WriteFault, NoMemory}
-use Rattle.qv_tool.specs.Ending.{line, returned_line, budget_line, Tells}
-use Rattle.qv_tool.specs.Verdict.{Verdict, Unready, Absent, TooLong, Unlinked, Compiles, Links, Runs, Builds, Refusal, refusal_of, verdict, source_of}
-use Rattle.qv_tool.specs.Words.{Command}
+use Rattle.qv_tool.specs.declared.status.Status.TheVariants.{Done, Usage, Missing, NotYet, Assembly, Image, Stopped, Budget, ReadFault, WriteFault, NoMemory}
+use Rattle.qv_tool.specs.Ending.{line, last_word, returned_line, budget_line, Tells}
+use Rattle.qv_tool.specs.Verdict.{Verdict, Compiles, Disassembles, Links, Runs, Builds, named_in, refusal_of, verdict}
+use Rattle.qv_words.specs.Words.{Command}
 
 -- the file is that of an image that follows the unit
 pub record IsFollower (e : Sum) (bytes : List ℕ) : Type 0 where
@@ -26,7 +27,8 @@ pub record IsFollower (e : Sum) (bytes : List ℕ) : Type 0 where
 abbrev pub WritesFile : Verdict → List ℕ → List ℕ → Type 0
 WritesFile (Compiles text e) name bytes = (name ≡ text) × Assembles e bytes
 WritesFile (Links image z) name bytes = (name ≡ image) × (bytes ≡ file_bytes z)
-WritesFile (Builds steps args image e) name bytes = (name ≡ image) × IsFollower e bytes
+WritesFile (Disassembles file z) name bytes = (name ≡ file) × (bytes ≡ disassembly z)
+WritesFile (Builds steps calls image e) name bytes = (name ≡ image) × IsFollower e bytes
 WritesFile verdict name bytes = ⊥
 
 -- the command's file is written whole; all else is as before
@@ -47,10 +49,10 @@ pub record TornFile (v : Verdict) (old : FileMap) (new : Option FileMap) (failed
   pub torn : Torn old files name bytes
   pub failed_is : failed ≡ Some name
 
--- the read of the command's file failed: its name is the one that failed; the files are as before
+-- the read of a file that the command reads failed: its name is the one that failed; the files are as before
 pub record Unread (c : Option Command) (old : FileMap) (new : Option FileMap) (failed : Option (List ℕ)) : Type 0 where
   pub name : List ℕ
-  pub source_is : source_of c ≡ Some name
+  pub reads : Contains (named_in old c) name
   pub failed_is : failed ≡ Some name
   pub held : new ≡ Some old
 
@@ -60,29 +62,31 @@ pub record Finishes (v : Verdict) (old : FileMap) (new : Option FileMap) (status
   pub line_is : text ≡ line (codes "done")
   pub wrote : Wrote v old new
 
--- an image that was read is called, over a host that answers the traps of this table; no file has changed
-pub record Plays (table : Table) (steps : ℕ) (args : List ℕ) (z : Qvm) (old : FileMap) (new : Option FileMap) (status : Status) (text : List ℕ) : Type 0 where
-  pub tells : Tells (image_run z table (args ∷ []) [] steps) status text
+-- an image that was read is called as often as was asked, over a host that answers the traps of this table; no file has changed
+pub record Plays (table : Table) (steps : ℕ) (calls : List (List ℕ)) (z : Qvm) (old : FileMap) (new : Option FileMap) (status : Status) (text : List ℕ) : Type 0 where
+  pub tells : Tells (image_run z table calls [] steps) status text
   pub held : new ≡ Some old
 
--- the value of the unit's sum at the first word is told, or all steps are used, fewer than ten million
-abbrev pub TellsValue : Sum → List ℕ → ℕ → Status → List ℕ → Type 0
-TellsValue e args steps status text = ((status ≡ Done) × (text ≡ returned_line (value e (slice_index args 0)))) ⊎ ((status ≡ Budget) × (text ≡ budget_line) × (steps < 10000000))
+-- the value of the unit's sum at the first word of the last call is told, or all steps of a call are used,
+-- fewer than ten million
+abbrev pub TellsValue : Sum → List (List ℕ) → ℕ → Status → List ℕ → Type 0
+TellsValue e calls steps status text = ((status ≡ Done) × (text ≡ returned_line (last_word (map (λ args. value e (slice_index args 0)) calls)))) ⊎ ((status ≡ Budget) × (text ≡ budget_line) × (steps < 10000000))
 
 -- the file of an image that follows the unit is written, and this image is called; all else is as before
-pub record BuildsAndPlays (table : Table) (steps : ℕ) (args name : List ℕ) (e : Sum) (old : FileMap) (new : Option FileMap) (status : Status) (text : List ℕ) : Type 0 where
+pub record BuildsAndPlays (table : Table) (steps : ℕ) (calls : List (List ℕ)) (name : List ℕ) (e : Sum) (old : FileMap) (new : Option FileMap) (status : Status) (text : List ℕ) : Type 0 where
   pub bytes : List ℕ
   pub follower : IsFollower e bytes
-  pub tells : Tells (image_run follower.image table (args ∷ []) [] steps) status text
-  pub value_is : TellsValue e args steps status text
+  pub tells : Tells (image_run follower.image table calls [] steps) status text
+  pub value_is : TellsValue e calls steps status text
   pub held : new ≡ Some (with_file old name bytes)
 
 -- how a command comes to its end
 abbrev pub Completes : Table → FileMap → Option FileMap → List ℕ → Status → Verdict → Type 0
 Completes table old new text status (Compiles name e) = Finishes (Compiles name e) old new status text
 Completes table old new text status (Links image z) = Finishes (Links image z) old new status text
-Completes table old new text status (Runs steps args z) = Plays table steps args z old new status text
-Completes table old new text status (Builds steps args image e) = BuildsAndPlays table steps args image e old new status text
+Completes table old new text status (Disassembles file z) = Finishes (Disassembles file z) old new status text
+Completes table old new text status (Runs steps calls z) = Plays table steps calls z old new status text
+Completes table old new text status (Builds steps calls image e) = BuildsAndPlays table steps calls image e old new status text
 Completes table old new text status verdict = ⊥
 
 -- a refusal has the status and the line that are called for, and changes no file
@@ -95,9 +99,11 @@ abbrev pub Reports : Table → Option Command → FileMap → Option FileMap →
 Reports table c old new failed text Done = Completes table old new text Done (verdict old c)
 Reports table c old new failed text Stopped = Completes table old new text Stopped (verdict old c)
 Reports table c old new failed text Budget = Completes table old new text Budget (verdict old c)
+Reports table c old new failed text Usage = Refuses (verdict old c) old new Usage text
 Reports table c old new failed text NotYet = Refuses (verdict old c) old new NotYet text
 Reports table c old new failed text Missing = Refuses (verdict old c) old new Missing text
 Reports table c old new failed text Assembly = Refuses (verdict old c) old new Assembly text
+Reports table c old new failed text Image = Refuses (verdict old c) old new Image text
 Reports table c old new failed text ReadFault = (unread : Unread c old new failed) × (text ≡ line (codes "read fault: " ++ unread.name))
 Reports table c old new failed text WriteFault = (torn : TornFile (verdict old c) old new failed) × (text ≡ line (codes "write fault: " ++ torn.name))
 Reports table c old new failed text NoMemory = (text ≡ line (codes "no memory")) × ((new ≡ Some old) ⊎ Wrote (verdict old c) old new)

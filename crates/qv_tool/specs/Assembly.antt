@@ -4,7 +4,7 @@ use Rattle.std.specs.Fmt.{decimal}
 use Rattle.asm_line.specs.declared.line.LineFault.{LineFault}
 use Rattle.asm_line.specs.declared.line.LineFault.TheVariants.{UnknownWord, Float, Byte2, MissingOperand, BadNumber, ExtraWord}
 use Rattle.asm_link.specs.declared.fault.AsmKind.{AsmKind}
-use Rattle.asm_link.specs.declared.fault.AsmKind.TheVariants.{Line, Redefined, MixedSegments, WrongSegment, OutsideProc, FrameTooLarge, ArgTooFar, UndefinedName, BranchFar, CodeTooLarge, EmptyCode, DataTooLarge, BadList, NoMemory, NotYet}
+use Rattle.asm_link.specs.declared.fault.AsmKind.TheVariants.{Line, Redefined, MixedSegments, WrongSegment, OutsideProc, FrameTooLarge, ArgTooFar, UndefinedName, BranchFar, CodeTooLarge, EmptyCode, DataTooLarge, BadList, NoMemory}
 
 abbrev pub line_text : LineFault → List ℕ
 line_text UnknownWord = codes "unknown word"
@@ -29,7 +29,6 @@ kind_text EmptyCode = codes "empty code"
 kind_text (DataTooLarge size) = codes "data too large " ++ decimal size
 kind_text BadList = codes "bad name"
 kind_text NoMemory = codes "no memory"
-kind_text NotYet = codes "not yet"
 
 -- a fault behind all lines
 abbrev pub is_behind : AsmKind → Bool

@@ -2,7 +2,7 @@
 use Rattle.std.specs.Prelude.{◌≡◌, ℕ, List, [], ◌∷◌, ◌++◌, codes}
 use Rattle.std.specs.Fmt.{decimal, signed_decimal}
 use Rattle.std.specs.Int.{cast_signed, w32}
-use Rattle.vm_core.specs.Machine.{Ending, Going, Stopped as HasStopped, Asks}
+use Rattle.vm_core.specs.Machine.{Going, Stopped as HasStopped, Asks}
 use Rattle.vm_core.specs.Calls.{Coming, Came, Ended, CallsEnd}
 use Rattle.vm_core.specs.declared.stop.Stop.{Stop}
 use Rattle.vm_core.specs.declared.stop.Stop.TheVariants.{Returned, Budget as StepsUsed, ModuleError, OperandOver, OperandUnder, StackOver, StackUnder, JumpOut, FellOff, DivideZero, DivideOver, CopyRange, UnknownTrap, TrapRange, HostFault, OutFault}
@@ -60,6 +60,10 @@ last_stop Came words = Returned (last_word words)
 last_stop (Ended Going) words = StepsUsed
 last_stop (Ended (HasStopped stop)) words = stop
 last_stop (Ended Asks) words = HostFault
+
+-- the calls ended by this stop
+abbrev pub EndsBy : CallsEnd → Stop → Type 0
+EndsBy end stop = last_stop end.coming end.words ≡ stop
 
 -- the status and the line tell how the calls ended
 pub record Tells (end : CallsEnd) (status : Status) (text : List ℕ) : Type 0 where

@@ -1,9 +1,10 @@
 pub mod Status
-pub mod Words
-pub mod Reading
+pub mod Task
 pub mod Ending
 pub mod Assembly
-pub mod Image
+pub mod Damage
+pub mod Names
+pub mod Gathered
 pub mod Verdict
 pub mod Answers
 pub mod Work

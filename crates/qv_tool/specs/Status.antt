@@ -1,11 +1,13 @@
 -- The numbers of statuses.
 use Rattle.std.specs.Prelude.{ℕ}
 use Rattle.qv_tool.specs.declared.status.Status.{Status}
-use Rattle.qv_tool.specs.declared.status.Status.TheVariants.{Done, Assembly, Stopped, Budget, Missing, ReadFault, WriteFault, NoMemory, NotYet}
+use Rattle.qv_tool.specs.declared.status.Status.TheVariants.{Done, Usage, Assembly, Image, Stopped, Budget, Missing, ReadFault, WriteFault, NoMemory, NotYet}
 
 abbrev pub code_of : Status → ℕ
 code_of Done = 0
+code_of Usage = 1
 code_of Assembly = 3
+code_of Image = 4
 code_of Stopped = 5
 code_of Budget = 6
 code_of Missing = 7

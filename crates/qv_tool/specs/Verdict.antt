@@ -1,37 +1,47 @@
 -- What a command and the files call for.
-use Rattle.std.specs.Prelude.{◌≡◌, ℕ, ◌^◌, nat_lt, List, [], ◌∷◌, ◌++◌, length, codes, if◌then◌else◌, Option, Some, None, Result, Ok, Err}
+use Rattle.std.specs.Prelude.{◌≡◌, ℕ, ◌^◌, nat_lt, List, [], ◌∷◌, ◌++◌, length, codes, if◌then◌else◌, Option, Some, None, Result, Ok, Err, slice_get, unwrap_or}
 use Rattle.qv_image.specs.Image.{Qvm}
+use Rattle.qv_image.specs.Read.{read_bytes}
+use Rattle.qv_image.specs.declared.fault.ImageFault.{ImageFault}
 use Rattle.qv_outside.specs.FileMap.{FileMap, content}
 use Rattle.asm_link.specs.declared.fault.AsmFault.{AsmFault}
-use Rattle.asm_link.specs.declared.fault.AsmKind.{AsmKind}
-use Rattle.asm_link.specs.declared.fault.AsmKind.TheVariants.{NotYet as AsmNotYet}
-use Rattle.asm_link.specs.FirstForm.{answer_of}
+use Rattle.asm_link.specs.declared.fault.AsmKind.TheVariants.{BadList}
+use Rattle.asm_link.specs.Link.{linked}
 use Rattle.qcc_front.specs.FirstForm.{unit_of}
 use Rattle.qcc_front.specs.Sum.{Sum}
 use Rattle.qv_tool.specs.declared.status.Status.{Status}
-use Rattle.qv_tool.specs.declared.status.Status.TheVariants.{Done, Missing, NotYet, Assembly, Stopped, Budget, ReadFault, WriteFault, NoMemory}
+use Rattle.qv_tool.specs.declared.status.Status.TheVariants.{Done, Usage, Missing, NotYet, Assembly, Image, Stopped, Budget, ReadFault, WriteFault, NoMemory}
 use Rattle.qv_tool.specs.Assembly.{fault_text}
+use Rattle.qv_tool.specs.Damage.{damage_text}
 use Rattle.qv_tool.specs.Ending.{line}
-use Rattle.qv_tool.specs.Image.{first_image}
-use Rattle.qv_tool.specs.Words.{Command, Qcc, Q3asm, Qrun, Qall, text_name}
+use Rattle.qv_tool.specs.Gathered.{Gathered, Found, Lacking, Overlong, gathered}
+use Rattle.qv_tool.specs.Names.{names_in}
+use Rattle.qv_tool.specs.Task.{Task, Compile, Assemble, AssembleList, Disassemble, Run, Build, task_of, text_name}
+use Rattle.qv_words.specs.Words.{Command}
 
 pub data Verdict : Type 0 where
-  -- the words or the file are of a form that isn't served yet
+  -- the words stand for no command
+  Unreadable : Verdict
+  -- the command or the file are of a form that isn't served yet
   Unready : Verdict
   -- the file's name isn't held
   Absent : List ℕ → Verdict
   -- it holds more than 2 ^ 31 - 1 bytes
   TooLong : List ℕ → Verdict
-  -- the assembly file of this name isn't linked, for this fault
+  -- the image's file has this fault
+  Damaged : ImageFault → Verdict
+  -- the assembly isn't linked, for this fault in the file of this name
   Unlinked : List ℕ → AsmFault → Verdict
   -- the unit is compiled to a text of this name
   Compiles : List ℕ → Sum → Verdict
-  -- the assembly file is linked to the image of this name
+  -- the image is written as assembly to the file of this name
+  Disassembles : List ℕ → Qvm → Verdict
+  -- the assembly files are linked to the image of this name
   Links : List ℕ → Qvm → Verdict
-  -- the image is called: the most steps, the words of the call
-  Runs : ℕ → List ℕ → Qvm → Verdict
+  -- the image is called: the most steps of a call, the words of each call
+  Runs : ℕ → List (List ℕ) → Qvm → Verdict
   -- the unit is compiled and linked to the image of this name, which is called
-  Builds : ℕ → List ℕ → List ℕ → Sum → Verdict
+  Builds : ℕ → List (List ℕ) → List ℕ → Sum → Verdict
 
 -- what a file's bytes call for, where they are held
 abbrev pub of_source : List ℕ → (List ℕ → Verdict) → Option (List ℕ) → Verdict
@@ -42,33 +52,72 @@ abbrev pub of_unit : (Sum → Verdict) → Option Sum → Verdict
 of_unit go None = Unready
 of_unit go (Some e) = go e
 
-abbrev pub of_fault : List ℕ → AsmKind → AsmFault → Verdict
-of_fault file AsmNotYet fault = Unready
-of_fault file kind fault = Unlinked file fault
+-- what the contents of several files call for
+abbrev pub of_gathered : (List (List ℕ) → Verdict) → Gathered → Verdict
+of_gathered go (Found texts) = go texts
+of_gathered go (Lacking name) = Absent name
+of_gathered go (Overlong name) = TooLong name
 
-abbrev pub of_linked : List ℕ → List ℕ → Result Qvm AsmFault → Verdict
-of_linked image file (Ok z) = Links image z
-of_linked image file (Err fault) = of_fault file fault.kind fault
+-- the file with this number
+abbrev pub name_at : List (List ℕ) → ℕ → List ℕ
+name_at names number = unwrap_or (slice_get names number) []
 
-abbrev pub of_image : ℕ → List ℕ → Option Qvm → Verdict
-of_image steps args None = Unready
-of_image steps args (Some z) = Runs steps args z
+abbrev pub of_linked : List ℕ → List (List ℕ) → Result Qvm AsmFault → Verdict
+of_linked image names (Ok z) = Links image z
+of_linked image names (Err fault) = Unlinked (name_at names fault.file) fault
 
--- the first thing that refuses, in the order of the command, or what is done
+abbrev pub of_files : FileMap → List ℕ → List (List ℕ) → Verdict
+of_files files image names = of_gathered (λ texts. of_linked image names (linked texts)) (gathered files names)
+
+-- a list at fault is told as a line of it
+abbrev pub of_list : FileMap → List ℕ → List ℕ → Result (List (List ℕ)) ℕ → Verdict
+of_list files image list (Ok names) = of_files files image names
+of_list files image list (Err number) = Unlinked list (record { file = 0; line = number; kind = BadList })
+
+abbrev pub of_text : List ℕ → Result Qvm ImageFault → Verdict
+of_text file (Ok z) = Disassembles file z
+of_text file (Err fault) = Damaged fault
+
+abbrev pub of_image : ℕ → List (List ℕ) → Result Qvm ImageFault → Verdict
+of_image steps calls (Ok z) = Runs steps calls z
+of_image steps calls (Err fault) = Damaged fault
+
+-- the first thing that refuses, in the order of the task, or what is done
+abbrev pub of_task : FileMap → Option Task → Verdict
+of_task files None = Unready
+of_task files (Some (Compile folder unit)) = of_source unit (λ bytes. of_unit (Compiles (text_name folder unit)) (unit_of bytes)) (content files unit)
+of_task files (Some (Assemble image names)) = of_files files image names
+of_task files (Some (AssembleList image list)) = of_source list (λ bytes. of_list files image list (names_in bytes)) (content files list)
+of_task files (Some (Disassemble image file)) = of_source image (λ bytes. of_text file (read_bytes bytes)) (content files image)
+of_task files (Some (Run steps calls image)) = of_source image (λ bytes. of_image steps calls (read_bytes bytes)) (content files image)
+of_task files (Some (Build steps calls image unit)) = of_source unit (λ bytes. of_unit (Builds steps calls image) (unit_of bytes)) (content files unit)
+
 abbrev pub verdict : FileMap → Option Command → Verdict
-verdict files None = Unready
-verdict files (Some (Qcc folder unit)) = of_source unit (λ bytes. of_unit (Compiles (text_name folder unit)) (unit_of bytes)) (content files unit)
-verdict files (Some (Q3asm image file)) = of_source file (λ bytes. of_linked image file (answer_of (bytes ∷ []))) (content files file)
-verdict files (Some (Qrun steps args image)) = of_source image (λ bytes. of_image steps args (first_image bytes)) (content files image)
-verdict files (Some (Qall steps args image unit)) = of_source unit (λ bytes. of_unit (Builds steps args image) (unit_of bytes)) (content files unit)
+verdict files None = Unreadable
+verdict files (Some c) = of_task files (task_of c)
 
--- the name of the file that a command reads
-abbrev pub source_of : Option Command → Option (List ℕ)
-source_of None = None
-source_of (Some (Qcc folder unit)) = Some unit
-source_of (Some (Q3asm image file)) = Some file
-source_of (Some (Qrun steps args image)) = Some image
-source_of (Some (Qall steps args image unit)) = Some unit
+-- the names in the list of this content
+abbrev pub listed_in : Result (List (List ℕ)) ℕ → List (List ℕ)
+listed_in (Ok names) = names
+listed_in (Err number) = []
+
+abbrev pub listed : Option (List ℕ) → List (List ℕ)
+listed None = []
+listed (Some bytes) = listed_in (names_in bytes)
+
+-- the names of the files that are read for a task
+abbrev pub read_for : FileMap → Option Task → List (List ℕ)
+read_for files None = []
+read_for files (Some (Compile folder unit)) = unit ∷ []
+read_for files (Some (Assemble image names)) = names
+read_for files (Some (AssembleList image list)) = list ∷ listed (content files list)
+read_for files (Some (Disassemble image file)) = image ∷ []
+read_for files (Some (Run steps calls image)) = image ∷ []
+read_for files (Some (Build steps calls image unit)) = unit ∷ []
+
+abbrev pub named_in : FileMap → Option Command → List (List ℕ)
+named_in files None = []
+named_in files (Some c) = read_for files (task_of c)
 
 -- a refusal: its status and its line
 pub record Refusal : Type 0 where
@@ -80,9 +129,11 @@ refusal status text = Some (record { status = status; text = line text })
 
 -- the refusal that is called for, where one is
 abbrev pub refusal_of : Verdict → Option Refusal
+refusal_of Unreadable = refusal Usage (codes "usage")
 refusal_of Unready = refusal NotYet (codes "not yet")
 refusal_of (Absent name) = refusal Missing (codes "absent: " ++ name)
 refusal_of (TooLong name) = refusal Missing (codes "too long: " ++ name)
+refusal_of (Damaged fault) = refusal Image (codes "image: " ++ damage_text fault)
 refusal_of (Unlinked file fault) = refusal Assembly (fault_text file fault.line fault.kind)
 refusal_of verdict = None
 
@@ -94,9 +145,11 @@ IsFault NoMemory = Unit {0}
 IsFault status = ⊥
 
 abbrev pub IsRefusal : Status → Type 0
+IsRefusal Usage = Unit {0}
 IsRefusal NotYet = Unit {0}
 IsRefusal Missing = Unit {0}
 IsRefusal Assembly = Unit {0}
+IsRefusal Image = Unit {0}
 IsRefusal status = ⊥
 
 -- the command came to its end

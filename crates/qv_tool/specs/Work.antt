@@ -1,25 +1,33 @@
 -- The work of a command before its line is put, and its parts, where the files are told.
-use Rattle.std.specs.Prelude.{◌≡◌, ℕ, ◌≤◌, List, ◌++◌, length, codes, IsTrue, Option, Some, None, ◌⊎◌, Result, Ok, Err}
+use Rattle.std.specs.Prelude.{◌≡◌, ℕ, ◌≤◌, List, ◌++◌, Contains, length, map, string_bytes, codes, Option, Some, None, ◌⊎◌, Result, Ok, Err}
 use Rattle.asm_link.specs.declared.fault.AsmFault.{AsmFault}
 use Rattle.asm_link.specs.declared.fault.AsmKind.{AsmKind}
-use Rattle.asm_link.specs.declared.fault.AsmKind.TheVariants.{NotYet as AsmNotYet, NoMemory as LinkNoMemory}
+use Rattle.asm_link.specs.declared.fault.AsmKind.TheVariants.{NoMemory as LinkNoMemory}
+use Rattle.asm_link.specs.Shown.{texts_of}
 use Rattle.qv_base.specs.declared.NoMemory.{NoMemory}
 use Rattle.qv_outside.specs.FileMap.{FileMap, with_file, Torn}
 use Rattle.qv_outside.specs.Hosts.{Table}
 use Rattle.qv_outside.specs.declared.files.FileFault.{FileFault}
 use Rattle.qv_outside.specs.declared.files.FileFault.TheVariants.{Absent, TooLong, Failed, NoMemory as ReadNoMemory}
 use Rattle.qv_image.specs.Image.{Qvm}
-use Rattle.vm_core.specs.Module.{all_served}
+use Rattle.qv_image.specs.declared.fault.ImageFault.{ImageFault}
+use Rattle.qv_image.specs.declared.fault.ImageFault.TheVariants.{NoMemory as NoMemoryForImage}
 use Rattle.qcc_front.specs.Follows.{Follows}
 use Rattle.qcc_front.specs.Sum.{Sum, sum_run}
 use Rattle.qv_tool.specs.declared.report.Report.{Report}
 use Rattle.qv_tool.specs.declared.status.Status.{Status}
-use Rattle.qv_tool.specs.declared.status.Status.TheVariants.{Assembly, Missing, NotYet, ReadFault, WriteFault}
+use Rattle.qv_tool.specs.declared.status.Status.TheVariants.{Assembly, Image, Missing, ReadFault, WriteFault}
 use Rattle.qv_tool.specs.Answers.{Reports, Wrote}
 use Rattle.qv_tool.specs.Assembly.{fault_text}
+use Rattle.qv_tool.specs.Damage.{damage_text}
 use Rattle.qv_tool.specs.Ending.{line}
-use Rattle.qv_tool.specs.Verdict.{verdict}
-use Rattle.qv_tool.specs.Words.{Command}
+use Rattle.qv_tool.specs.declared.gather.Sources.{Sources}
+use Rattle.qv_tool.specs.declared.gather.Sources.TheVariants.{Texts, Refused}
+use Rattle.qv_tool.specs.declared.list.Listed.{Listed}
+use Rattle.qv_tool.specs.declared.list.Listed.TheVariants.{Names, BadLine}
+use Rattle.qv_tool.specs.Gathered.{Found, Lacking, Overlong, gathered}
+use Rattle.qv_tool.specs.Verdict.{named_in, of_files, verdict}
+use Rattle.qv_words.specs.Words.{Command}
 
 -- the report is right; where memory is wanting the files are as before, or the command's file is whole
 abbrev pub Works : Table → Option Command → FileMap → Option FileMap → Option (List ℕ) → Result Report NoMemory → Type 0
@@ -45,14 +53,50 @@ Stores old new failed name bytes (Ok None) = new ≡ Some (with_file old name by
 Stores old new failed name bytes (Ok (Some report)) = (files : FileMap) × (new ≡ Some files) × Torn old files name bytes × (failed ≡ Some name) × Says WriteFault (line (codes "write fault: " ++ name)) report
 Stores old new failed name bytes (Err _) = new ≡ Some old
 
--- the report of a fault of linking the file of this name, by its kind
+-- the report of a fault of linking in the file of this name, by its kind
 abbrev pub SaysUnlinked : List ℕ → AsmKind → AsmFault → Report → Type 0
-SaysUnlinked file AsmNotYet fault report = Says NotYet (line (codes "not yet")) report
 SaysUnlinked file LinkNoMemory fault report = ⊥
 SaysUnlinked file kind fault report = Says Assembly (line (fault_text file fault.line fault.kind)) report
 
--- what a unit is built to: an image that follows it, which the machine serves, of few instructions
+-- the report of a fault of an image
+abbrev pub SaysDamaged : ImageFault → Report → Type 0
+SaysDamaged NoMemoryForImage report = ⊥
+SaysDamaged fault report = Says Image (line (codes "image: " ++ damage_text fault)) report
+
+-- a file of these names isn't found, or its read failed
+abbrev pub IsRefused : FileMap → Option (List ℕ) → List (List ℕ) → Report → Type 0
+IsRefused held failed names report =
+    ((name : List ℕ) × (gathered held names ≡ Lacking name) × Says Missing (line (codes "absent: " ++ name)) report)
+    ⊎ (((name : List ℕ) × (gathered held names ≡ Overlong name) × Says Missing (line (codes "too long: " ++ name)) report)
+    ⊎ ((name : List ℕ) × Contains names name × (failed ≡ Some name) × Says ReadFault (line (codes "read fault: " ++ name)) report))
+
+-- the files of these names are read in order, or one of them is refused
+abbrev pub Gathers : FileMap → Option (List ℕ) → List (List ℕ) → Result Sources NoMemory → Type 0
+Gathers held failed names (Ok (Texts texts)) = gathered held names ≡ Found (texts_of texts.items)
+Gathers held failed names (Ok (Refused report)) = IsRefused held failed names report
+Gathers held failed names (Err wanting) = Unit {0}
+
+-- the names in a list, or the line at fault
+abbrev pub IsListed : Result (List (List ℕ)) ℕ → Listed → Type 0
+IsListed names (Names listed) = names ≡ Ok (map string_bytes listed.items)
+IsListed names (BadLine number) = names ≡ Err number
+
+-- a file that is refused is reported with a status of which this holds
+abbrev pub HasStatus : (Status → Type 0) → Sources → Type 0
+HasStatus P (Texts texts) = Unit {0}
+HasStatus P (Refused report) = P report.status
+
+-- there are so many texts
+abbrev pub HasCount : ℕ → Sources → Type 0
+HasCount n (Texts texts) = length texts.items ≡ n
+HasCount n (Refused report) = Unit {0}
+
+-- the command asks for linking the files of these names to the image
+pub record Asks (c : Command) (image : List ℕ) (names : List (List ℕ)) (held : FileMap) : Type 0 where
+  pub verdict_is : verdict held (Some c) ≡ of_files held image names
+  pub needs : (name : List ℕ) → Contains names name → Contains (named_in held (Some c)) name
+
+-- what a unit is built to: an image that follows it, of few instructions
 pub record IsBuilt (e : Sum) (z : Qvm) : Type 0 where
   pub follows : Follows (sum_run e) z
-  pub served : IsTrue (all_served z.code)
   pub small : length z.code ≤ 10000000

@@ -1,15 +1,18 @@
 // The tool: what the program does, over any files, streams and host.
 #![tactic(auto)]
 
-mod options;
+mod damaged;
+mod gather;
+mod list;
+mod plain;
 mod play;
 mod q3asm;
 mod qall;
 mod qcc;
+mod qdis;
 mod qrun;
 mod report;
 pub mod status;
 mod store;
 pub mod tool;
 mod unlinked;
-mod words;

@@ -1,9 +1,10 @@
 // Calling an image.
-ghost use Rattle.std.specs.Prelude.{◌≡◌, ◌∷◌, [], IfOk, IsTrue};
+ghost use Rattle.std.specs.Prelude.{◌≡◌, [], IfOk};
 ghost use Rattle.qv_image.specs.Shown.{qvm_of};
-ghost use Rattle.vm_core.specs.Calls.{image_run};
-ghost use Rattle.vm_core.specs.Module.{all_served};
-ghost use Rattle.qv_tool.specs.Ending.{Tells};
+ghost use Rattle.vm_core.specs.Calls.{calls_run, image_run};
+ghost use Rattle.vm_core.specs.Machine.{turn};
+ghost use Rattle.vm_core.specs.Module.{code_of, state_of};
+ghost use Rattle.qv_tool.specs.Ending.{EndsBy, Tells};
 
 use crate::report::{Report, ended};
 use qv_base::NoMemory;
@@ -13,26 +14,53 @@ use qv_outside::host::Host;
 use qv_outside::sink::Sink;
 use std::alloc::Global;
 use vm_core::module::Module;
+use vm_core::stop::Stop;
 
-/// Calls the image's vmMain with these words, for at most `steps` steps. The report tells how it ended.
+/// Calls the image's vmMain with the words of each call in order, each for at most `steps` steps, until one
+/// doesn't return. The report tells how the calls ended.
 pub fn play<H: Host, O: Sink>(
     alloc: Global,
     image: &Image,
     steps: u64,
-    args: &[u32; CALL_WORDS],
+    calls: &[[u32; CALL_WORDS]],
     host: &mut H,
     out: &mut O,
 ) -> Result<Report, NoMemory>
-    requires { IsTrue (all_served image.now.code.items) }
-    ensures tells { IfOk result (λ report. Tells (image_run (qvm_of image.now) (H.table host.old) (args.now ∷ []) [] steps) report.status report.line.items) }
+    ensures tells { IfOk result (λ report. Tells (image_run (qvm_of image.now) (H.table host.old) calls.now [] steps) report.status report.line.items) }
     ensures out_quiet { O.written out.new ≡ O.written out.old }
     ensures host_asked { H.asked host.new ≡ H.asked host.old }
     ensures host_replied { H.replied host.new ≡ H.replied host.old }
     ensures host_table { H.table host.new ≡ H.table host.old }
     ensures host_kept { H.kept host.new ≡ H.kept host.old }
 {
-    let mut module = Module::load(alloc, image)?;
-    module.start(args);
-    let stop = module.run(steps, host, out);
+    let mut machine = Module::load(alloc, image)?;
+    let stop = make_calls(&mut machine, steps, calls, host, out);
     ended(alloc, stop)
+}
+
+// Makes the calls in order over its memory. The stop is that of the call that didn't return, else
+// that of the last call.
+fn make_calls<H: Host, O: Sink>(
+    machine: &mut Module,
+    steps: u64,
+    calls: &[[u32; CALL_WORDS]],
+    host: &mut H,
+    out: &mut O,
+) -> Stop
+    ensures stop { EndsBy (calls_run (turn (code_of machine.old) (H.table host.old)) steps calls.now (state_of machine.old).memory []) result }
+    ensures out_quiet { O.written out.new ≡ O.written out.old }
+    ensures host_asked { H.asked host.new ≡ H.asked host.old }
+    ensures host_replied { H.replied host.new ≡ H.replied host.old }
+    ensures host_table { H.table host.new ≡ H.table host.old }
+    ensures host_kept { H.kept host.new ≡ H.kept host.old }
+{
+    let mut last = 0;
+    for args in calls {
+        machine.start(args);
+        match machine.run(steps, host, out) {
+            Stop::Returned(word) => last = word,
+            stop => return stop,
+        }
+    }
+    Stop::Returned(last)
 }

@@ -1,42 +1,45 @@
-// The command q3asm: links an assembly file to an image.
-ghost use Rattle.std.specs.Prelude.{◌≡◌, IfOk, IfSome, Some};
+// The command q3asm: links assembly files to an image.
+ghost use Rattle.std.specs.Prelude.{◌≡◌, ◌<◌, ◌^◌, IfOk, IfSome, Some, length, map, string_bytes};
 ghost use Rattle.qv_outside.specs.Causes.{Rose};
 ghost use Rattle.qv_outside.specs.Hosts.{Table};
-ghost use Rattle.qv_tool.specs.Words.{Q3asm};
-ghost use Rattle.qv_tool.specs.Work.{Works, SaysUnlinked};
+ghost use Rattle.qv_tool.specs.Task.{AssembleList, task_of};
+ghost use Rattle.qv_tool.specs.Verdict.{name_at};
+ghost use Rattle.qv_tool.specs.Work.{Asks, Works, SaysUnlinked};
+ghost use Rattle.qv_words.specs.Words.{Command};
 
-use crate::report::{Report, done, not_yet, unread};
+use crate::gather::{Sources, gather};
+use crate::list::{Listed, names_in};
+use crate::report::{Report, done, unread};
 use crate::status::Status;
 use crate::store::store;
-use crate::unlinked::unlinked;
-use asm_link::fault::{AsmFault, AsmFile, AsmKind};
+use crate::unlinked::{bad_list, unlinked};
+use asm_link::fault::{AsmFault, AsmKind};
 use asm_link::link::link;
 use qv_base::NoMemory;
-use qv_base::name::Name;
 use qv_image::write::write_image;
 use qv_outside::files::Files;
 use std::alloc::Global;
 
-/// Reads the assembly file and writes the image that it's linked to.
+/// Reads the files of these names and writes the image that they are linked to.
 pub fn q3asm<F: Files>(
     alloc: Global,
     image: &str,
-    file: &str,
+    names: &[String],
     files: &mut F,
 ) -> Result<Report, NoMemory>
-    ensures works { (table : Table) → IfSome (F.held files.old) (λ held. Works table (Some (Q3asm image.now file.now)) held (F.held files.new) (F.failed files.new) result) }
+    requires { length names.now < 2 ^ 32 }
+    ensures works { (table : Table) (c : Command) → IfSome (F.held files.old) (λ held. Asks c image.now (map string_bytes names.now) held → Works table (Some c) held (F.held files.new) (F.failed files.new) result) }
     ensures read_fault { IfOk result (λ report. report.status ≡ Status.ReadFault → Rose (F.read_faults files.old) (F.read_faults files.new)) }
     ensures write_fault { IfOk result (λ report. report.status ≡ Status.WriteFault → Rose (F.write_faults files.old) (F.write_faults files.new)) }
     ensures no_memory { IfOk result (λ report. ¬ (report.status ≡ Status.NoMemory)) }
 {
-    let text = match files.read(alloc, file) {
-        Ok(text) => text,
-        Err(fault) => return unread(alloc, file, fault),
+    let texts = match gather(alloc, names, files)? {
+        Sources::Texts(texts) => texts,
+        Sources::Refused(report) => return Ok(report),
     };
-    let name = Name::from_bytes(alloc, file.as_bytes())?;
-    let linked = match link(alloc, &[AsmFile { name, text }]) {
+    let linked = match link(alloc, &texts) {
         Ok(linked) => linked,
-        Err(fault) => return refusal(alloc, file, &fault),
+        Err(fault) => return refusal(alloc, names, &fault),
     };
     let bytes = write_image(alloc, &linked)?;
     let report = done(alloc)?;
@@ -46,13 +49,38 @@ pub fn q3asm<F: Files>(
     }
 }
 
-// The report of a fault of linking this file.
-fn refusal(alloc: Global, file: &str, fault: &AsmFault) -> Result<Report, NoMemory>
-    ensures { IfOk result (λ report. SaysUnlinked file.now fault.now.kind fault.now report) }
+/// Reads the list, and does so with the files that it names.
+pub fn q3asm_list<F: Files>(
+    alloc: Global,
+    image: &str,
+    list: &str,
+    files: &mut F,
+) -> Result<Report, NoMemory>
+    ensures works { (table : Table) (c : Command) → task_of c ≡ Some (AssembleList image.now list.now) → IfSome (F.held files.old) (λ held. Works table (Some c) held (F.held files.new) (F.failed files.new) result) }
+    ensures read_fault { IfOk result (λ report. report.status ≡ Status.ReadFault → Rose (F.read_faults files.old) (F.read_faults files.new)) }
+    ensures write_fault { IfOk result (λ report. report.status ≡ Status.WriteFault → Rose (F.write_faults files.old) (F.write_faults files.new)) }
+    ensures no_memory { IfOk result (λ report. ¬ (report.status ≡ Status.NoMemory)) }
 {
+    let bytes = match files.read(alloc, list) {
+        Ok(bytes) => bytes,
+        Err(fault) => return unread(alloc, list, fault),
+    };
+    match names_in(alloc, &bytes)? {
+        Listed::Names(names) => q3asm(alloc, image, &names, files),
+        Listed::BadLine(number) => bad_list(alloc, list, number),
+    }
+}
+
+// The report of a fault of linking the files of these names.
+fn refusal(alloc: Global, names: &[String], fault: &AsmFault) -> Result<Report, NoMemory>
+    ensures { IfOk result (λ report. SaysUnlinked (name_at (map string_bytes names.now) fault.now.file) fault.now.kind fault.now report) }
+{
+    let name = match names.get(fault.file as usize) {
+        Some(name) => name.as_str(),
+        None => "",
+    };
     match &fault.kind {
         AsmKind::NoMemory => Err(NoMemory),
-        AsmKind::NotYet => not_yet(alloc),
-        kind => unlinked(alloc, file, fault.line, kind),
+        kind => unlinked(alloc, name, fault.line, kind),
     }
 }

@@ -1,11 +1,13 @@
-// The command qall: compiles a unit, links it, writes its image and makes the call.
+// The command qall: compiles a unit, links it, writes its image and makes the calls.
 ghost use Rattle.std.specs.Prelude.{◌≡◌, IfOk, IfSome, Some};
 ghost use Rattle.qv_image.specs.Shown.{qvm_of};
 ghost use Rattle.qv_outside.specs.Causes.{Rose};
 ghost use Rattle.qcc_front.specs.Assembles.{Assembles};
 ghost use Rattle.qcc_front.specs.Unit.{sum_of};
-ghost use Rattle.qv_tool.specs.Words.{Qall};
+ghost use Rattle.qv_tool.specs.Task.{Build, task_of};
 ghost use Rattle.qv_tool.specs.Work.{IsBuilt, Works};
+ghost use Rattle.qv_words.specs.Calls.{AreCalls};
+ghost use Rattle.qv_words.specs.Words.{Command};
 
 use crate::play::play;
 use crate::report::{Report, not_yet, unread};
@@ -25,18 +27,19 @@ use qv_outside::host::Host;
 use qv_outside::sink::Sink;
 use std::alloc::Global;
 
-/// Reads the unit, writes its image and makes the call.
+/// Reads the unit, writes its image and makes the calls.
 pub fn qall<F: Files, O: Sink, H: Host>(
     alloc: Global,
     steps: u64,
-    args: &[u32; CALL_WORDS],
+    calls: &[[u32; CALL_WORDS]],
     image: &str,
     unit: &str,
     files: &mut F,
     out: &mut O,
     host: &mut H,
 ) -> Result<Report, NoMemory>
-    ensures works { IfSome (F.held files.old) (λ held. Works (H.table host.old) (Some (Qall steps args.now image.now unit.now)) held (F.held files.new) (F.failed files.new) result) }
+    requires { AreCalls calls.now }
+    ensures works { (c : Command) → task_of c ≡ Some (Build steps calls.now image.now unit.now) → IfSome (F.held files.old) (λ held. Works (H.table host.old) (Some c) held (F.held files.new) (F.failed files.new) result) }
     ensures read_fault { IfOk result (λ report. report.status ≡ Status.ReadFault → Rose (F.read_faults files.old) (F.read_faults files.new)) }
     ensures write_fault { IfOk result (λ report. report.status ≡ Status.WriteFault → Rose (F.write_faults files.old) (F.write_faults files.new)) }
     ensures no_memory { IfOk result (λ report. ¬ (report.status ≡ Status.NoMemory)) }
@@ -56,7 +59,7 @@ pub fn qall<F: Files, O: Sink, H: Host>(
     let built = build(alloc, &parsed)?;
     let bytes = write_image(alloc, &built)?;
     match store(alloc, files, image, &bytes)? {
-        None => play(alloc, &built, steps, args, host, out),
+        None => play(alloc, &built, steps, calls, host, out),
         Some(fault) => Ok(fault),
     }
 }

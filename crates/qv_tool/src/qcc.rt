@@ -2,8 +2,9 @@
 ghost use Rattle.std.specs.Prelude.{◌≡◌, IfOk, IfSome, Some, string_bytes};
 ghost use Rattle.qv_outside.specs.Causes.{Rose};
 ghost use Rattle.qv_outside.specs.Hosts.{Table};
-ghost use Rattle.qv_tool.specs.Words.{Qcc, text_name};
+ghost use Rattle.qv_tool.specs.Task.{Compile, task_of, text_name};
 ghost use Rattle.qv_tool.specs.Work.{Works};
+ghost use Rattle.qv_words.specs.Words.{Command};
 
 use crate::report::{Report, done, not_yet, unread};
 use crate::status::Status;
@@ -22,7 +23,7 @@ pub fn qcc<F: Files>(
     unit: &str,
     files: &mut F,
 ) -> Result<Report, NoMemory>
-    ensures works { (table : Table) → IfSome (F.held files.old) (λ held. Works table (Some (Qcc folder.now unit.now)) held (F.held files.new) (F.failed files.new) result) }
+    ensures works { (table : Table) (c : Command) → task_of c ≡ Some (Compile folder.now unit.now) → IfSome (F.held files.old) (λ held. Works table (Some c) held (F.held files.new) (F.failed files.new) result) }
     ensures read_fault { IfOk result (λ report. report.status ≡ Status.ReadFault → Rose (F.read_faults files.old) (F.read_faults files.new)) }
     ensures write_fault { IfOk result (λ report. report.status ≡ Status.WriteFault → Rose (F.write_faults files.old) (F.write_faults files.new)) }
     ensures no_memory { IfOk result (λ report. ¬ (report.status ≡ Status.NoMemory)) }

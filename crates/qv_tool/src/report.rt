@@ -27,7 +27,18 @@ pub fn done(alloc: Global) -> Result<Report, NoMemory>
     })
 }
 
-/// The words or the file are of a form that isn't served yet.
+/// The words stand for no command.
+pub fn usage(alloc: Global) -> Result<Report, NoMemory>
+    ensures { IfOk result (λ report. Says Status.Usage (line (codes "usage")) report) }
+{
+    let line = format!(in alloc; "usage\n")?;
+    Ok(Report {
+        status: Status::Usage,
+        line: line.into_bytes(),
+    })
+}
+
+/// The command or the file is of a form that isn't served yet.
 pub fn not_yet(alloc: Global) -> Result<Report, NoMemory>
     ensures { IfOk result (λ report. Says Status.NotYet (line (codes "not yet")) report) }
 {
@@ -121,7 +132,8 @@ fn stop_text(alloc: Global, stop: Stop) -> Result<String, NoMemory>
     }
 }
 
-fn plain(alloc: Global, text: &str) -> Result<String, NoMemory>
+/// A text of its own.
+pub fn plain(alloc: Global, text: &str) -> Result<String, NoMemory>
     ensures { IfOk result (λ copy. string_bytes copy ≡ text.now) }
 {
     Ok(String::from_str(alloc, text)?)

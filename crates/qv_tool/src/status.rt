@@ -7,8 +7,12 @@ ghost use Rattle.qv_tool.specs.Status.{code_of};
 pub enum Status {
     /// The file was written, or the module's call returned.
     Done,
+    /// The words stand for no command.
+    Usage,
     /// The assembly isn't linked.
     Assembly,
+    /// The file is no image.
+    Image,
     /// The module's call was stopped.
     Stopped,
     /// The module's call used all its steps.
@@ -21,7 +25,7 @@ pub enum Status {
     WriteFault,
     /// Memory was wanting.
     NoMemory,
-    /// The words or the file are of a form that isn't served yet.
+    /// The command or the file is of a form that isn't served yet.
     NotYet,
 }
 
@@ -31,7 +35,9 @@ pub fn status_code(status: Status) -> u8
 {
     match status {
         Status::Done => 0,
+        Status::Usage => 1,
         Status::Assembly => 3,
+        Status::Image => 4,
         Status::Stopped => 5,
         Status::Budget => 6,
         Status::Missing => 7,

@@ -1,5 +1,6 @@
 // Reports of faults in assembly.
 ghost use Rattle.std.specs.Prelude.{◌≡◌, ◌++◌, IfOk, codes};
+ghost use Rattle.asm_link.specs.declared.fault.AsmKind.{AsmKind};
 ghost use Rattle.qv_tool.specs.Assembly.{fault_text, is_behind, kind_text, line_text, place_text};
 ghost use Rattle.qv_tool.specs.Ending.{line};
 ghost use Rattle.qv_tool.specs.Work.{Says};
@@ -23,6 +24,13 @@ pub fn unlinked(alloc: Global, name: &str, number: u32, kind: &AsmKind) -> Resul
         status: Status::Assembly,
         line,
     })
+}
+
+/// The list of this name is at fault on this line.
+pub fn bad_list(alloc: Global, list: &str, number: u32) -> Result<Report, NoMemory>
+    ensures { IfOk result (λ report. Says Status.Assembly (line (fault_text list.now number AsmKind.BadList)) report) }
+{
+    unlinked(alloc, list, number, &AsmKind::BadList)
 }
 
 // Where a fault stands: at a line, or behind all lines.
@@ -64,7 +72,6 @@ fn kind_text(alloc: Global, kind: &AsmKind) -> Result<Vec<u8>, NoMemory>
         }
         AsmKind::BadList => plain(alloc, "bad name"),
         AsmKind::NoMemory => plain(alloc, "no memory"),
-        AsmKind::NotYet => plain(alloc, "not yet"),
     }
 }
 

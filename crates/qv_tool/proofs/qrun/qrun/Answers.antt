@@ -1,18 +1,29 @@
-use Rattle.std.proofs.Common.{rules, ◌≡◌, Some, refl, sym, ap, List, ℕ}
+use Rattle.std.proofs.Common.{◌∙◌, Some, Err, refl, sym, ap, subst, List, ℕ}
+use Rattle.qv_image.specs.Read.{IsRead, read_bytes}
 use Rattle.qv_image.specs.Shown.{qvm_of}
-use Rattle.qv_tool.specs.Image.{first_image}
-use Rattle.qv_tool.specs.Verdict.{of_image}
-use Rattle.qv_tool.specs.Words.{Qrun}
-use Rattle.qv_tool.proofs.Working.{played_works, unread_works}
+use Rattle.qv_outside.specs.FileMap.{FileMap}
+use Rattle.qv_tool.specs.Verdict.{Verdict, Runs, of_image, of_task}
+use Rattle.qv_tool.proofs.Damaging.{damaged_works}
+use Rattle.qv_tool.proofs.Working.{if_told, needs_one, played_works, read_goes, read_stays, unread_works, verdict_on}
 use Rattle.qv_tool.proofs.qrun.qrun.Goals as goal
 
 pub returns-in-Err-clause-works : goal.returns-in-Err-clause-works
-returns-in-Err-clause-works g c =
-    unread_works (g.H.Host.table c.args.host.now) (Some (Qrun c.args.steps c.args.args.now c.args.image.now)) c.args.image.now (λ bytes. of_image c.args.steps c.args.args.now (first_image bytes)) refl (λ held. refl)
-    _ _ _ _ c.in-Err.fault c.unread.result c.in-Err.ensures.told c.in-Err.ensures.named c.unread.ensures
+returns-in-Err-clause-works g c = λ command asked.
+    unread_works (g.H.Host.table c.args.host.now) (Some command) c.args.image.now (λ held bytes. of_image c.args.steps c.args.calls.now (read_bytes bytes)) _ _ _ _ c.in-Err.fault c.unread.result
+    (needs_one command _ c.args.image.now _ asked (λ held. refl)) (if_told _ (λ held. ap (of_task held) asked)) c.in-Err.ensures.told c.in-Err.ensures.named c.unread.ensures
+
+pub returns-in-Ok-read_image-clause-works : goal.returns-in-Ok-read_image-clause-works
+returns-in-Ok-read_image-clause-works g c = λ command asked.
+    let go : FileMap → List ℕ → Verdict = λ held bytes. of_image c.args.steps c.args.calls.now (read_bytes bytes) in
+    played_works (g.H.Host.table c.args.host.now) (Some command) _ _ _ c.args.steps c.args.calls.now (qvm_of c.in-Ok-read_image.image) c.play.result
+    (verdict_on (Some command) _ (Runs c.args.steps c.args.calls.now (qvm_of c.in-Ok-read_image.image)) _ (ap (of_image c.args.steps c.args.calls.now) (ap read_bytes (sym c.deref.ensures.value) ∙ c.in-Ok-read_image.ensures.read)) (read_goes (g.H.Host.table c.args.host.now) (Some command) c.args.image.now go _ _ c.in-Ok.bytes (if_told _ (λ held. ap (of_task held) asked)) c.in-Ok.ensures.told))
+    (read_stays (g.H.Host.table c.args.host.now) (Some command) c.args.image.now go _ _ c.in-Ok.bytes c.in-Ok.ensures.told) c.play.ensures.tells
 
 pub returns-clause-works : goal.returns-clause-works
-returns-clause-works g c =
-    let is : Some (qvm_of c.in-Some.image) ≡ first_image c.in-Ok.bytes.items = search rules in
-    played_works (g.H.Host.table c.args.host.now) (Some (Qrun c.args.steps c.args.args.now c.args.image.now)) c.args.image.now (λ bytes. of_image c.args.steps c.args.args.now (first_image bytes)) refl (λ held. refl) c.in-Ok.bytes
-    _ _ _ c.args.steps c.args.args.now (qvm_of c.in-Some.image) c.play.result c.in-Ok.ensures.told (ap (of_image c.args.steps c.args.args.now) (sym is)) c.play.ensures.tells
+returns-clause-works g c = λ command asked.
+    let go : FileMap → List ℕ → Verdict = λ held bytes. of_image c.args.steps c.args.calls.now (read_bytes bytes) in
+    let R : List ℕ → Type 0 = λ bytes. IsRead (read_bytes bytes) (Err c.in-Err-read_image.fault) in
+    damaged_works (g.H.Host.table c.args.host.now) (Some command) (of_image c.args.steps c.args.calls.now) (λ fault. refl) (read_bytes c.in-Ok.bytes.items) _ _ _
+    (read_goes (g.H.Host.table c.args.host.now) (Some command) c.args.image.now go _ _ c.in-Ok.bytes (if_told _ (λ held. ap (of_task held) asked)) c.in-Ok.ensures.told)
+    (read_stays (g.H.Host.table c.args.host.now) (Some command) c.args.image.now go _ _ c.in-Ok.bytes c.in-Ok.ensures.told)
+    c.in-Err-read_image.fault c.damaged.result (subst R c.deref.ensures.value c.in-Err-read_image.ensures.read) c.damaged.ensures

@@ -1,0 +1,45 @@
+// Reading several files.
+ghost use Rattle.std.specs.Prelude.{◌≡◌, ◌≤◌, IfOk, IfSome, length, map, string_bytes};
+ghost use Rattle.qv_outside.specs.Causes.{Rose};
+ghost use Rattle.qv_tool.specs.Work.{Gathers, HasCount, HasStatus};
+
+use crate::report::{Report, unread};
+use crate::status::Status;
+use asm_link::fault::AsmFile;
+use qv_base::NoMemory;
+use qv_base::name::Name;
+use qv_outside::files::Files;
+use std::alloc::Global;
+
+/// The files that were read, or the report of the first that was refused.
+#[derive(Drop)]
+pub enum Sources {
+    Texts(Vec<AsmFile>),
+    Refused(Report),
+}
+
+/// Reads the files of these names in order, up to the first that is refused. No file changes.
+pub fn gather<F: Files>(alloc: Global, names: &[String], files: &mut F) -> Result<Sources, NoMemory>
+    ensures same { F.held files.new ≡ F.held files.old }
+    ensures gathers { IfSome (F.held files.old) (λ held. Gathers held (F.failed files.new) (map string_bytes names.now) result) }
+    ensures count { IfOk result (λ sources. HasCount (length names.now) sources) }
+    ensures read_fault { IfOk result (λ sources. HasStatus (λ status. status ≡ Status.ReadFault → Rose (F.read_faults files.old) (F.read_faults files.new)) sources) }
+    ensures write_fault { IfOk result (λ sources. HasStatus (λ status. ¬ (status ≡ Status.WriteFault)) sources) }
+    ensures no_memory { IfOk result (λ sources. HasStatus (λ status. ¬ (status ≡ Status.NoMemory)) sources) }
+    ensures reads_later { F.read_faults files.old ≤ F.read_faults files.new }
+    ensures writes_stay { F.write_faults files.new ≡ F.write_faults files.old }
+{
+    let mut texts = Vec::new(alloc);
+    for name in names {
+        let text = match files.read(alloc, name.as_str()) {
+            Ok(text) => text,
+            Err(fault) => {
+                let report = unread(alloc, name.as_str(), fault)?;
+                return Ok(Sources::Refused(report));
+            }
+        };
+        let name = Name::from_bytes(alloc, name.as_bytes())?;
+        texts.push(AsmFile { name, text })?;
+    }
+    Ok(Sources::Texts(texts))
+}
