@@ -7,6 +7,7 @@ pub mod CallLaws
 pub mod Goes
 pub mod Frame
 pub mod Replies
+pub mod Rows
 pub mod Quiet
 pub mod QuietRuns
 pub mod QuietCalls

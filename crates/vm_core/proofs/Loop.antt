@@ -25,14 +25,6 @@ ran_none f s o = record {
   };
 }
 
--- a step of the same code over the same table
-pub did_at : (code code2 : List Instr) (table table2 : Table) (s now : State) (result : Option Stop) (old new : Outside) → code2 ≡ code → table2 ≡ table →
-    Did (turn code2 table2 s) now old new result → Did (turn code table s) now old new result
-did_at code code2 table table2 s now result old new p q d =
-    let P : List Instr → Type 0 = λ x. Did (turn x table s) now old new result in
-    let Q : Table → Type 0 = λ x. Did (turn code2 x s) now old new result in
-    subst P p (subst Q q d)
-
 -- a run of the same code over the same table
 pub ran_at : {code code2 : List Instr} {table table2 : Table} {n : ℕ} {s t : State} {a b : Outside} {close : Close} → code2 ≡ code → table2 ≡ table →
     Ran (turn code2 table2) n s t a b close → Ran (turn code table) n s t a b close
@@ -40,6 +32,10 @@ ran_at {code = code} {code2 = code2} {table = table} {table2 = table2} {n = n} {
     let P : List Instr → Type 0 = λ x. Ran (turn x table) n s t a b close in
     let Q : Table → Type 0 = λ x. Ran (turn code2 x) n s t a b close in
     subst P p (subst Q q r)
+
+-- a run of as many steps
+pub ran_for : (f : State → Turn) (m n : ℕ) (s t : State) (a b : Outside) (close : Close) → m ≡ n → Ran f m s t a b close → Ran f n s t a b close
+ran_for f m n s t a b close e r = let P : ℕ → Type 0 = λ k. Ran f k s t a b close in subst P e r
 
 -- a plain step, which nothing outside sees
 pub halts_did : (t : Turn) (now : State) (told : Outside) (result : Option Stop) → Halts t now result → Did t now told told result

@@ -4,7 +4,7 @@ use Rattle.std.proofs.lemmas.List.{append-nil}
 use Rattle.qv_outside.specs.Event.{Event, Reply}
 use Rattle.vm_core.specs.declared.stop.Stop.TheVariants.{Returned}
 use Rattle.vm_core.specs.Machine.{State, Turn, Ending, Going, Stopped, Asks, End, runs, started}
-use Rattle.vm_core.specs.Calls.{Coming, Came, Ended, CallsEnd, with_calls, on_end, calls_run}
+use Rattle.vm_core.specs.Calls.{Came, Ended, CallsEnd, with_calls, on_end, calls_run}
 use Rattle.vm_core.proofs.Runs.{runs_stays}
 use Rattle.vm_core.proofs.CallLaws.{calls_joined, came_not_ended, nothing_left, one_more}
 use Rattle.vm_core.proofs.Quiet.{IsQuiet}

@@ -11,20 +11,24 @@ abbrev pub code_of : Module → List Instr
 code_of m = m.code.items
 
 -- the operands, the top first
-abbrev pub operands_at : Module → Registers → List ℕ
-operands_at m r = drop r.top m.words
+abbrev pub operands_at : List ℕ → Registers → List ℕ
+operands_at words r = drop r.top words
 
--- the state of a module whose registers are held apart
-abbrev pub state_at : Module → Registers → State
-state_at m r = record { memory = m.block; program_stack = r.program_stack; operands = operands_at m r; next = r.next }
+-- the state of a memory, the words of an operand stack, and registers
+abbrev pub state_at : List ℕ → List ℕ → Registers → State
+state_at memory words r = record { memory = memory; program_stack = r.program_stack; operands = operands_at words r; next = r.next }
 
 abbrev pub state_of : Module → State
-state_of m = state_at m m.registers
+state_of m = state_at m.block m.words m.registers
 
 -- whether it may run
 abbrev pub ready_of : Module → Bool
 ready_of m = m.ready
 
--- a turn that nothing outside sees
-abbrev pub IsTurn : Turn → Module → Registers → Option Stop → Type 0
-IsTurn t new r result = Halts t (state_at new r) result
+-- a turn that nothing outside sees, and what it leaves
+abbrev pub IsTurn : Turn → List ℕ → List ℕ → Registers → Option Stop → Type 0
+IsTurn t memory words r result = Halts t (state_at memory words r) result
+
+-- a turn that leaves the memory alone, whatever it is
+abbrev pub IsRow : (State → Turn) → List ℕ → Registers → List ℕ → Registers → Option Stop → Type 0
+IsRow f words r words_now now result = (memory : List ℕ) → IsTurn (f (state_at memory words r)) memory words_now now result

@@ -1,12 +1,14 @@
-//! Frames, calls and jumps, and what only moves the operand stack.
-ghost use Rattle.std.specs.Prelude.{◌≡◌, ◌<◌, length};
+//! Frames, calls and jumps among `count` instructions, and what only moves the operand stack.
+ghost use Rattle.std.specs.Prelude.{ℕ, List, ◌≡◌, ◌<◌, ◌^◌};
+ghost use Rattle.qv_base.specs.Word.{plus};
 ghost use Rattle.qv_outside.specs.Hosts.{Table};
 ghost use Rattle.vm_core.specs.Machine.{entered, left, called, jumped, pushed, popped};
-ghost use Rattle.vm_core.specs.Module.{code_of, state_at, operands_at, ready_of, IsTurn};
+ghost use Rattle.vm_core.specs.Module.{state_at, operands_at, IsTurn, IsRow};
 
-use crate::module::{Module, Registers};
+use crate::module::{Registers, Words};
 use crate::stack::{holds, is_full, push_at, word_at};
 use crate::stop::Stop;
+use masked_mem::block::Block;
 use qv_base::word;
 
 // The return place of the entry frame, which ends a run.
@@ -16,13 +18,11 @@ const RETURN: u32 = u32::MAX;
 const FIRST_NEGATIVE: u32 = 1 << 31;
 
 /// ENTER: takes a frame of `size` bytes.
-pub fn enter(m: &mut Module, r: &mut Registers, size: u32) -> Option<Stop>
-    requires { r.old.next < length (code_of m.old) }
-    ensures step { IsTurn (entered size (state_at m.old r.old)) m.new r.new result }
-    ensures code { code_of m.new ≡ code_of m.old }
-    ensures ready { ready_of m.new ≡ ready_of m.old }
+pub fn enter(block: &Block, r: &mut Registers, size: u32) -> Option<Stop>
+    requires { r.old.next < 2 ^ 31 }
+    ensures { (words : List ℕ) → IsTurn (entered size (state_at block.now words r.old)) block.now words r.new result }
 {
-    let bottom = m.block.size().saturating_sub(65536);
+    let bottom = block.size().saturating_sub(65536);
     if u64::from(r.program_stack) < u64::from(bottom) + u64::from(size) {
         return Some(Stop::StackOver);
     }
@@ -32,105 +32,109 @@ pub fn enter(m: &mut Module, r: &mut Registers, size: u32) -> Option<Stop>
 }
 
 /// LEAVE: gives a frame of `size` bytes back, and goes to the return place above it.
-pub fn leave(m: &mut Module, r: &mut Registers, size: u32) -> Option<Stop>
-    requires { r.old.next < length (code_of m.old) }
-    ensures step { IsTurn (left (length (code_of m.old)) size (state_at m.old r.old)) m.new r.new result }
-    ensures code { code_of m.new ≡ code_of m.old }
-    ensures ready { ready_of m.new ≡ ready_of m.old }
+pub fn leave(
+    block: &Block,
+    words: &Words,
+    r: &mut Registers,
+    count: usize,
+    size: u32,
+) -> Option<Stop>
+    requires { r.old.next < 2 ^ 31 }
+    ensures { IsTurn (left count size (state_at block.now words.now r.old)) block.now words.now r.new result }
 {
-    let top = m.block.size() - 64;
+    let top = block.size() - 64;
     if u64::from(top) < u64::from(r.program_stack) + u64::from(size) {
         return Some(Stop::StackUnder);
     }
     let place = r.program_stack + size;
-    let back = m.block.load4(place);
+    let back = block.load4(place);
     if back == RETURN {
-        if !holds(&m.words, r.top, 1) {
+        if !holds(words, r.top, 1) {
             return Some(Stop::OperandUnder);
         }
-        return Some(Stop::Returned(word_at(&m.words, r.top)));
+        return Some(Stop::Returned(word_at(words, r.top)));
     }
-    if back as usize >= m.code.len() {
+    if back as usize >= count {
         return Some(Stop::JumpOut(back));
     }
     r.program_stack = place;
-    r.next = back;
+    r.next = back as usize;
     None
 }
 
 /// CALL: stores the next instruction's number, and goes to the instruction whose number is the top
 /// word. A negative one is a trap's, whose number is stored behind.
-pub fn call(m: &mut Module, r: &mut Registers) -> Option<Stop>
-    requires { r.old.next < length (code_of m.old) }
-    ensures step { (table : Table) → IsTurn (called table (length (code_of m.old)) (state_at m.old r.old) (operands_at m.old r.old)) m.new r.new result }
-    ensures code { code_of m.new ≡ code_of m.old }
-    ensures ready { ready_of m.new ≡ ready_of m.old }
+pub fn call(block: &mut Block, words: &Words, r: &mut Registers, count: usize) -> Option<Stop>
+    requires { r.old.next < 2 ^ 31 }
+    ensures { (table : Table) → IsTurn (called table count (state_at block.old words.now r.old) (operands_at words.now r.old)) block.new words.now r.new result }
 {
-    if !holds(&m.words, r.top, 1) {
+    if !holds(words, r.top, 1) {
         return Some(Stop::OperandUnder);
     }
-    let t = word_at(&m.words, r.top);
+    let t = word_at(words, r.top);
     r.top += 1;
     r.next += 1;
-    m.block.store4(r.program_stack, r.next);
+    block.store4(r.program_stack, r.next as u32);
     if t >= FIRST_NEGATIVE {
         let number = u32::MAX - t;
-        m.block.store4(word::add(r.program_stack, 4), number);
+        block.store4(word::add(r.program_stack, 4), number);
         return Some(Stop::UnknownTrap(number));
     }
-    if t as usize >= m.code.len() {
+    if t as usize >= count {
         return Some(Stop::JumpOut(t));
     }
-    r.next = t;
+    r.next = t as usize;
     None
 }
 
 /// JUMP: goes to the instruction whose number is the top word.
-pub fn jump(m: &mut Module, r: &mut Registers) -> Option<Stop>
-    requires { r.old.next < length (code_of m.old) }
-    ensures step { IsTurn (jumped (length (code_of m.old)) (state_at m.old r.old) (operands_at m.old r.old)) m.new r.new result }
-    ensures code { code_of m.new ≡ code_of m.old }
-    ensures ready { ready_of m.new ≡ ready_of m.old }
+pub fn jump(words: &Words, r: &mut Registers, count: usize) -> Option<Stop>
+    requires { r.old.next < 2 ^ 31 }
+    ensures { IsRow (λ s. jumped count s s.operands) words.now r.old words.now r.new result }
 {
-    if !holds(&m.words, r.top, 1) {
+    if !holds(words, r.top, 1) {
         return Some(Stop::OperandUnder);
     }
-    let place = word_at(&m.words, r.top);
-    if place as usize >= m.code.len() {
+    let place = word_at(words, r.top);
+    if place as usize >= count {
         return Some(Stop::JumpOut(place));
     }
     r.top += 1;
-    r.next = place;
+    r.next = place as usize;
     None
 }
 
-/// PUSH, CONST and LOCAL: pushes a word.
-pub fn push(m: &mut Module, r: &mut Registers, word: u32) -> Option<Stop>
-    requires { r.old.next < length (code_of m.old) }
-    ensures step { IsTurn (pushed (state_at m.old r.old) (operands_at m.old r.old) word) m.new r.new result }
-    ensures code { code_of m.new ≡ code_of m.old }
-    ensures ready { ready_of m.new ≡ ready_of m.old }
+/// PUSH and CONST: pushes a word.
+pub fn push(words: &mut Words, r: &mut Registers, word: u32) -> Option<Stop>
+    requires { r.old.next < 2 ^ 31 }
+    ensures { IsRow (λ s. pushed s s.operands word) words.old r.old words.new r.new result }
 {
-    if is_full(&m.words, r.top) {
+    if is_full(words, r.top) {
         return Some(Stop::OperandOver);
     }
-    r.top = push_at(&mut m.words, r.top, word);
+    r.top = push_at(words, r.top, word);
     r.next += 1;
     None
 }
 
-/// POP: drops the top word.
-pub fn pop(m: &mut Module, r: &mut Registers) -> Option<Stop>
-    requires { r.old.next < length (code_of m.old) }
-    ensures step { IsTurn (popped (state_at m.old r.old) (operands_at m.old r.old)) m.new r.new result }
-    ensures code { code_of m.new ≡ code_of m.old }
-    ensures ready { ready_of m.new ≡ ready_of m.old }
+/// LOCAL: pushes the address at `offset` from the program stack's place.
+pub fn push_local(words: &mut Words, r: &mut Registers, offset: u32) -> Option<Stop>
+    requires { r.old.next < 2 ^ 31 }
+    ensures { IsRow (λ s. pushed s s.operands (plus s.program_stack offset)) words.old r.old words.new r.new result }
 {
-    if !holds(&m.words, r.top, 1) {
+    push(words, r, word::add(r.program_stack, offset))
+}
+
+/// POP: drops the top word.
+pub fn pop(words: &Words, r: &mut Registers) -> Option<Stop>
+    requires { r.old.next < 2 ^ 31 }
+    ensures { IsRow (λ s. popped s s.operands) words.now r.old words.now r.new result }
+{
+    if !holds(words, r.top, 1) {
         return Some(Stop::OperandUnder);
     }
     // It is read for what is known of the stack then.
-    let _ = word_at(&m.words, r.top);
+    let _ = word_at(words, r.top);
     r.top += 1;
     r.next += 1;
     None

@@ -4,13 +4,16 @@ ghost use Rattle.std.specs.Prelude.{◌≤◌, ◌<◌, ◌^◌, vec_len};
 use masked_mem::block::Block;
 use qv_ops::instr::Instr;
 
+/// The words of the operand stack: those from its top on.
+pub(crate) type Words = [u32; 256];
+
 /// What changes at every step: the operand stack's top, the program stack's place, and the number of
 /// the next instruction.
 #[derive(Clone, Copy)]
 pub(crate) struct Registers {
     pub(crate) top: usize,
     pub(crate) program_stack: u32,
-    pub(crate) next: u32,
+    pub(crate) next: usize,
     ghost top_fits: { top ≤ 256 },
 }
 
@@ -19,7 +22,7 @@ pub(crate) struct Registers {
 pub struct Module {
     pub(crate) code: Vec<Instr>,
     pub(crate) block: Block,
-    pub(crate) words: [u32; 256],
+    pub(crate) words: Words,
     pub(crate) registers: Registers,
     pub(crate) ready: bool,
     ghost code_fits: { vec_len code < 2 ^ 31 },

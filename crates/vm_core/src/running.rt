@@ -1,5 +1,5 @@
 // Loading, starting and running a module.
-ghost use Rattle.std.specs.Prelude.{◌≡◌, ◌≢◌, IsTrue, ◌↔◌, ◌≤◌, IfOk, true, false, sum};
+ghost use Rattle.std.specs.Prelude.{◌≡◌, ◌≢◌, IsTrue, ◌↔◌, ◌≤◌, ◌<◌, ◌^◌, length, IfOk, true, false, sum};
 ghost use Rattle.qv_image.specs.Shown.{qvm_of};
 ghost use Rattle.qv_outside.specs.Causes.{Rose};
 ghost use Rattle.qv_outside.specs.Hosts.{Table};
@@ -9,13 +9,14 @@ ghost use Rattle.vm_core.specs.Ran.{Ran, Outside, outside, close_of};
 
 use crate::entry::entry_frame;
 use crate::fresh::fresh_block;
-use crate::module::{Module, Registers};
+use crate::module::{Module, Registers, Words};
 use crate::stack::empty;
 use crate::step::step;
 use crate::stop::Stop;
 use masked_mem::block::Block;
 use qv_base::NoMemory;
 use qv_image::image::Image;
+use qv_ops::instr::Instr;
 use qv_outside::host::Host;
 use qv_outside::sink::Sink;
 use std::alloc::Global;
@@ -96,8 +97,10 @@ impl Module {
         ensures host_fault { result ≡ Stop.HostFault → Rose (H.faults host.old) (H.faults host.new) }
         ensures out_fault { result ≡ Stop.OutFault → Rose (O.faults out.old) (O.faults out.new) }
     {
+        let mut words = self.words;
         let mut registers = self.registers;
-        let stop = turns(self, &mut registers, n);
+        let stop = turns(&self.code, &mut self.block, &mut words, &mut registers, n);
+        self.words = words;
         self.registers = registers;
         self.ready = matches!(stop, Stop::Budget);
         stop
@@ -132,17 +135,20 @@ impl Module {
     }
 }
 
-// At most n steps. No instruction asks the host or puts anything yet.
-fn turns(m: &mut Module, r: &mut Registers, n: u64) -> Stop
-    ensures ran { (table : Table) (told : Outside) → Ran (turn (code_of m.old) table) n (state_at m.old r.old) (state_at m.new r.new) told told (close_of result) }
-    ensures code { code_of m.new ≡ code_of m.old }
+// At most n steps, counted down to make the loop short. No instruction asks the host or puts anything
+// yet.
+fn turns(code: &[Instr], block: &mut Block, words: &mut Words, r: &mut Registers, n: u64) -> Stop
+    requires { length code.now < 2 ^ 31 }
+    ensures ran { (table : Table) (told : Outside) → Ran (turn code.now table) n (state_at block.old words.old r.old) (state_at block.new words.new r.new) told told (close_of result) }
     ensures no_host_fault { result ≢ Stop.HostFault }
     ensures no_out_fault { result ≢ Stop.OutFault }
 {
-    for _ in 0..n {
-        if let Some(stop) = step(m, r) {
+    let mut left = n;
+    while left > 0 {
+        if let Some(stop) = step(code, block, words, r) {
             return stop;
         }
+        left -= 1;
     }
     Stop::Budget
 }

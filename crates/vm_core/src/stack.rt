@@ -1,8 +1,10 @@
 // The operand stack: the words from a top on, which moves down as words are pushed.
 ghost use Rattle.std.specs.Prelude.{[], IsTrue, IsFalse, nat_le, ◌≡◌, ◌∷◌, ◌<◌, ◌≤◌, ◌+◌, length, drop};
 
+use crate::module::Words;
+
 /// Whether at least `count` words stand on the stack.
-pub fn holds(words: &[u32; 256], top: usize, count: usize) -> bool
+pub fn holds(words: &Words, top: usize, count: usize) -> bool
     requires fits { top ≤ 256 }
     requires count { count ≤ 256 }
     ensures test { result ≡ nat_le count (length (drop top words.now)) }
@@ -13,7 +15,7 @@ pub fn holds(words: &[u32; 256], top: usize, count: usize) -> bool
 }
 
 /// Whether there is no room for another word.
-pub fn is_full(words: &[u32; 256], top: usize) -> bool
+pub fn is_full(words: &Words, top: usize) -> bool
     requires { top ≤ 256 }
     ensures test { result ≡ nat_le 256 (length (drop top words.now)) }
     ensures room { IsFalse result → 0 < top }
@@ -23,7 +25,7 @@ pub fn is_full(words: &[u32; 256], top: usize) -> bool
 }
 
 /// The word that stands at `top`.
-pub fn word_at(words: &[u32; 256], top: usize) -> u32
+pub fn word_at(words: &Words, top: usize) -> u32
     requires { top < 256 }
     ensures { drop top words.now ≡ result ∷ drop (top + 1) words.now }
 {
@@ -31,7 +33,7 @@ pub fn word_at(words: &[u32; 256], top: usize) -> u32
 }
 
 /// Pushes a word, and gives the new top.
-pub fn push_at(words: &mut [u32; 256], top: usize, word: u32) -> usize
+pub fn push_at(words: &mut Words, top: usize, word: u32) -> usize
     requires some { 0 < top }
     requires fits { top ≤ 256 }
     ensures words { drop result words.new ≡ word ∷ drop top words.old }
@@ -42,7 +44,7 @@ pub fn push_at(words: &mut [u32; 256], top: usize, word: u32) -> usize
 }
 
 /// The top of the empty stack.
-pub fn empty(words: &[u32; 256]) -> usize
+pub fn empty(words: &Words) -> usize
     ensures none { drop result words.now ≡ [] }
     ensures top { result ≡ 256 }
 {

@@ -1,12 +1,15 @@
-use Rattle.std.proofs.Common.{◌≡◌}
+use Rattle.std.proofs.Common.{◌≤◌, ◌-◌}
 use Rattle.qv_outside.specs.Hosts.{Table}
 use Rattle.vm_core.specs.Machine.{turn, Going}
-use Rattle.vm_core.specs.Module.{code_of, state_at}
+use Rattle.vm_core.specs.Module.{state_at}
 use Rattle.vm_core.specs.Ran.{Ran, Outside, Full}
 use Rattle.vm_core.proofs.running.turns.Given as goal
 
-abbrev pub invariant-loop : goal.invariant-loop
-invariant-loop l = record {
-  ran : (table : Table) (told : Outside) → Ran (turn (code_of l.fn.m) table) l.counter (state_at l.fn.m l.fn.r) (state_at l.m l.r) told told (Full Going);
-  code : code_of l.m ≡ code_of l.fn.m;
+abbrev pub invariant-loop-left : goal.invariant-loop-left
+invariant-loop-left l = record {
+  within : l.left ≤ l.n;
+  ran : (table : Table) (told : Outside) → Ran (turn l.fn.code table) (l.n - l.left) (state_at l.fn.block l.fn.words l.fn.r) (state_at l.block l.words l.r) told told (Full Going);
 }
+
+abbrev pub decreases-loop-left : goal.decreases-loop-left
+decreases-loop-left l = l.left

@@ -1,11 +1,15 @@
-use Rattle.std.proofs.Common.{sym, ◌∙◌, length}
+use Rattle.std.proofs.Common.{Some, sym, ap, ◌∙◌, length}
+use Rattle.std.proofs.lemmas.Option.{slice_get-get_or}
 use Rattle.vm_core.specs.Machine.{turn, act}
-use Rattle.vm_core.specs.Module.{code_of, state_at}
+use Rattle.vm_core.specs.Module.{state_at}
 use Rattle.vm_core.proofs.Goes.{turn_is}
 use Rattle.vm_core.proofs.Loop.{halts_along}
 use Rattle.vm_core.proofs.step.step.Goals as goal
 
-pub returns-clause-step : goal.returns-clause-step
-returns-clause-step c = λ table.
-    halts_along (turn (code_of c.args.m.now) table (state_at c.args.m.now c.args.r.now)) (act table (length (code_of c.args.m.now)) c.in-Some.instr.op c.in-Some.instr.operand (state_at c.args.m.now c.args.r.now)) (state_at c.act.new.m c.act.new.r) c.act.result
-    (turn_is (code_of c.args.m.now) table c.in-Some.instr (state_at c.args.m.now c.args.r.now) (sym c.fetch.ensures ∙ c.in-Some.is)) (c.act.ensures.step table)
+pub returns : goal.returns
+returns c = λ table.
+    let found = c.in-Some.ensures.lookup in
+    let before = state_at c.args.block.now c.args.words.now c.args.r.now in
+    let here = slice_get-get_or c.args.code.now c.args.r.now.next c.in-Some.instr.now found.3.0 ∙ ap Some (sym found.1) in
+    halts_along (turn c.args.code.now table before) (act table (length c.args.code.now) c.in-Some.instr.now.op c.in-Some.instr.now.operand before) (state_at c.act.new.block c.act.new.words c.act.new.r) c.act.result
+    (turn_is c.args.code.now table c.in-Some.instr.now before here) (c.act.ensures table)
