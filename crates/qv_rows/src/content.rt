@@ -1,10 +1,37 @@
 // Bytes of files, from content lines and words.
 use crate::fault::StepFault;
+use crate::image::image_bytes;
 use crate::words::{number, repeated};
 use std::alloc::Global;
 
+/// The bytes of the file that content lines make, as its verb says.
+pub fn written(alloc: Global, verb: &str, content: &[&str]) -> Result<Vec<u8>, StepFault> {
+    let texts = texts(alloc, content)?;
+    match verb {
+        "file" => file_bytes(alloc, &texts),
+        "bytes" => hex_lines(alloc, &texts),
+        "image" => image_bytes(alloc, &texts),
+        _ => Err(StepFault::Unread),
+    }
+}
+
+/// The bytes of the file that another file's bytes make, as its verb and these words say.
+pub fn changed(
+    alloc: Global,
+    verb: &str,
+    bytes: &[u8],
+    args: &[String],
+) -> Result<Vec<u8>, StepFault> {
+    match (verb, args) {
+        ("cut", [length]) => cut(alloc, bytes, number(length)?),
+        ("flip", [at]) => flipped(alloc, bytes, number(at)?),
+        ("patch", [at, part]) => patched(alloc, bytes, number(at)?, &hex(alloc, part)?),
+        _ => Err(StepFault::Unread),
+    }
+}
+
 /// The texts of content lines.
-pub fn texts(alloc: Global, content: &[&str]) -> Result<Vec<String>, StepFault> {
+fn texts(alloc: Global, content: &[&str]) -> Result<Vec<String>, StepFault> {
     let mut texts = Vec::new(alloc);
     for line in content {
         let (count, text) = counted(line)?;
@@ -29,7 +56,7 @@ fn counted(line: &str) -> Result<(u32, &str), StepFault> {
 }
 
 /// The bytes of these lines, each with a line feed.
-pub fn file_bytes(alloc: Global, texts: &[String]) -> Result<Vec<u8>, StepFault> {
+fn file_bytes(alloc: Global, texts: &[String]) -> Result<Vec<u8>, StepFault> {
     let mut bytes = Vec::new(alloc);
     for text in texts {
         bytes.extend_from_slice(text.as_bytes())?;
@@ -39,7 +66,7 @@ pub fn file_bytes(alloc: Global, texts: &[String]) -> Result<Vec<u8>, StepFault>
 }
 
 /// The bytes that these lines write in hexadecimal.
-pub fn hex_lines(alloc: Global, texts: &[String]) -> Result<Vec<u8>, StepFault> {
+fn hex_lines(alloc: Global, texts: &[String]) -> Result<Vec<u8>, StepFault> {
     let mut bytes = Vec::new(alloc);
     for text in texts {
         bytes.extend_from_slice(&hex(alloc, text)?)?;
@@ -69,19 +96,19 @@ pub fn hex(alloc: Global, text: &str) -> Result<Vec<u8>, StepFault> {
 }
 
 /// The first `length` of these bytes.
-pub fn cut(alloc: Global, bytes: &[u8], length: u32) -> Result<Vec<u8>, StepFault> {
+fn cut(alloc: Global, bytes: &[u8], length: u32) -> Result<Vec<u8>, StepFault> {
     let front = bytes.get(..length as usize).ok_or(StepFault::Unread)?;
     Ok(front.to_vec(alloc)?)
 }
 
 /// These bytes, with the highest bit of that at `at` turned.
-pub fn flipped(alloc: Global, bytes: &[u8], at: u32) -> Result<Vec<u8>, StepFault> {
+fn flipped(alloc: Global, bytes: &[u8], at: u32) -> Result<Vec<u8>, StepFault> {
     let byte = bytes.get(at as usize).ok_or(StepFault::Unread)?;
     patched(alloc, bytes, at, &[byte ^ 0x80])
 }
 
 /// These bytes, with `part` in place of those that stand at `at`.
-pub fn patched(alloc: Global, bytes: &[u8], at: u32, part: &[u8]) -> Result<Vec<u8>, StepFault> {
+fn patched(alloc: Global, bytes: &[u8], at: u32, part: &[u8]) -> Result<Vec<u8>, StepFault> {
     let mut patched = cut(alloc, bytes, at)?;
     let rest = bytes.get(at as usize..).ok_or(StepFault::Unread)?;
     let behind = rest.get(part.len()..).ok_or(StepFault::Unread)?;

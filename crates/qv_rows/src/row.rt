@@ -1,11 +1,10 @@
 // Rows: what stands between the runs of a row, and what the script's lines do.
-use crate::content::{cut, file_bytes, flipped, hex, hex_lines, patched, texts};
+use crate::content::{changed, written};
 use crate::fault::StepFault;
-use crate::image::image_bytes;
 use crate::run::{Outcome, Plan, Shelf, run};
 use crate::script::Step;
 use crate::transcript::Transcript;
-use crate::words::{number, repeated, words};
+use crate::words::{repeated, words};
 use qv_base::NoMemory;
 use std::alloc::Global;
 use std::collections::BTreeMap;
@@ -57,55 +56,53 @@ impl Row {
             return Ok(());
         }
         let line = repeated(self.alloc, line)?;
-        if line.as_str() == "$" {
-            return self.run(&[]);
-        }
-        let words = words(self.alloc, &line)?;
-        match words.split_first() {
-            Some((verb, args)) => self.obey(verb.as_str(), args, &step.content),
-            None => Err(StepFault::Unread),
-        }
+        self.obey(&words(self.alloc, &line)?, &step.content)
     }
 
     /// Does what a line of these words says.
-    fn obey(&mut self, verb: &str, args: &[String], content: &[&str]) -> Result<(), StepFault> {
-        let alloc = self.alloc;
-        match (verb, args) {
-            ("$", words) => self.run(words),
-            ("file", [name]) => self.make(name, file_bytes(alloc, &texts(alloc, content)?)?),
-            ("bytes", [name]) => self.make(name, hex_lines(alloc, &texts(alloc, content)?)?),
-            ("image", [name]) => self.make(name, image_bytes(alloc, &texts(alloc, content)?)?),
-            ("text", [name, text]) => self.make(name, text.as_bytes().to_vec(alloc)?),
-            ("cut", [name, other, length]) => {
-                let bytes = cut(alloc, self.file(other)?, number(length)?)?;
-                self.make(name, bytes)
-            }
-            ("flip", [name, other, at]) => {
-                let bytes = flipped(alloc, self.file(other)?, number(at)?)?;
-                self.make(name, bytes)
-            }
-            ("patch", [name, other, at, part]) => {
-                let part = hex(alloc, part)?;
-                let bytes = patched(alloc, self.file(other)?, number(at)?, &part)?;
-                self.make(name, bytes)
-            }
-            ("show", [name]) => {
-                let bytes = self.file(name)?.to_vec(alloc)?;
-                Ok(self.transcript.answer("  | ", &bytes)?)
-            }
-            ("hex", [name]) => {
-                let bytes = self.file(name)?.to_vec(alloc)?;
-                Ok(self.transcript.hex(&bytes)?)
-            }
-            _ => self.plan.read(verb, args),
+    fn obey(&mut self, words: &[String], content: &[&str]) -> Result<(), StepFault> {
+        let [verb, args @ ..] = words else {
+            return Err(StepFault::Unread);
+        };
+        match verb.as_str() {
+            "$" => self.run(args),
+            "show" | "hex" => self.print(verb, args),
+            "steady" | "room" | "fail" => self.plan.read(verb, args),
+            _ => self.make(verb, args, content),
         }
     }
 
+    /// Prints a file as `show` or `hex` says.
+    fn print(&mut self, verb: &str, args: &[String]) -> Result<(), StepFault> {
+        let [name] = args else {
+            return Err(StepFault::Unread);
+        };
+        let bytes = self.file(name)?.to_vec(self.alloc)?;
+        let printed = match verb {
+            "hex" => self.transcript.hex(&bytes),
+            _ => self.transcript.answer("  | ", &bytes),
+        };
+        Ok(printed?)
+    }
+
     /// Puts a file on the shelf, in place of one that has its name.
-    fn make(&mut self, name: &str, bytes: Vec<u8>) -> Result<(), StepFault> {
+    fn make(&mut self, verb: &str, args: &[String], content: &[&str]) -> Result<(), StepFault> {
+        let [name, args @ ..] = args else {
+            return Err(StepFault::Unread);
+        };
+        let bytes = self.bytes(verb, args, content)?;
         let name = String::from_str(self.alloc, name)?;
         self.shelf.insert(name, bytes)?;
         Ok(())
+    }
+
+    /// The bytes that a file is made of.
+    fn bytes(&self, verb: &str, args: &[String], content: &[&str]) -> Result<Vec<u8>, StepFault> {
+        match args {
+            [] => written(self.alloc, verb, content),
+            [text] if verb == "text" => Ok(text.as_bytes().to_vec(self.alloc)?),
+            [other, args @ ..] => changed(self.alloc, verb, self.file(other)?, args),
+        }
     }
 
     /// What a file holds.
