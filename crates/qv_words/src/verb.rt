@@ -44,53 +44,31 @@ pub enum Flag {
 pub fn verb_named(word: &str) -> Option<Verb>
     ensures { result ≡ verb_of word.now }
 {
-    if word == "qcc" {
-        return Some(Verb::Compile);
+    match word {
+        "qcc" => Some(Verb::Compile),
+        "q3asm" => Some(Verb::Assemble),
+        "qdis" => Some(Verb::Disassemble),
+        "qrun" => Some(Verb::Run),
+        "qall" => Some(Verb::Build),
+        _ => None,
     }
-    if word == "q3asm" {
-        return Some(Verb::Assemble);
-    }
-    if word == "qdis" {
-        return Some(Verb::Disassemble);
-    }
-    if word == "qrun" {
-        return Some(Verb::Run);
-    }
-    if word == "qall" {
-        return Some(Verb::Build);
-    }
-    None
 }
 
 /// The option that is written so. None where no option with a value is.
 pub fn flag_named(word: &str) -> Option<Flag>
     ensures { result ≡ flag_of word.now }
 {
-    if word == "-I" {
-        return Some(Flag::IncludeDir);
+    match word {
+        "-I" => Some(Flag::IncludeDir),
+        "-D" => Some(Flag::Definition),
+        "-t" => Some(Flag::Binds),
+        "-d" => Some(Flag::Folder),
+        "-o" => Some(Flag::Image),
+        "-f" => Some(Flag::ListFile),
+        "-n" => Some(Flag::Steps),
+        "-a" => Some(Flag::Word),
+        _ => None,
     }
-    if word == "-D" {
-        return Some(Flag::Definition);
-    }
-    if word == "-t" {
-        return Some(Flag::Binds);
-    }
-    if word == "-d" {
-        return Some(Flag::Folder);
-    }
-    if word == "-o" {
-        return Some(Flag::Image);
-    }
-    if word == "-f" {
-        return Some(Flag::ListFile);
-    }
-    if word == "-n" {
-        return Some(Flag::Steps);
-    }
-    if word == "-a" {
-        return Some(Flag::Word);
-    }
-    None
 }
 
 /// Whether the word is `-c`, the option without a value: it ends a call.
