@@ -51,3 +51,41 @@ fn append(text: &mut Vec<u8>, line: &[u8]) -> Result<(), NoMemory>
     text.push(b'\n')?;
     Ok(())
 }
+
+#[cfg(test)]
+mod tests {
+    use super::*;
+    use std::test::Fail;
+
+    // Lines of each kind.
+    const LINES: [UnitLine; 9] = [
+        UnitLine::Open,
+        UnitLine::Parameter,
+        UnitLine::Load,
+        UnitLine::Constant(7),
+        UnitLine::Add,
+        UnitLine::Constant(4_294_967_295),
+        UnitLine::Subtract,
+        UnitLine::Return,
+        UnitLine::Close,
+    ];
+
+    const TEXT: &[u8] = b"\
+proc vmMain 0 0
+ADDRFP4 0
+INDIRI4
+CNSTI4 7
+ADDI4
+CNSTI4 4294967295
+SUBI4
+RETI4
+endproc vmMain 0 0
+";
+
+    #[test]
+    fn writes_lines(rt: HostRuntime) -> Result<(), Fail> {
+        let text = write_unit(rt.alloc(), &LINES)?;
+        assert!(rt; text.as_slice() == TEXT, "{text:?}");
+        Ok(())
+    }
+}
