@@ -1,6 +1,6 @@
 // Texts that are linked, and texts that are refused.
 use crate::fault::{AsmFault, AsmFile, AsmKind};
-use crate::kind::{Fault, Kind};
+use crate::kind::Kind;
 use crate::link::link;
 use asm_line::line::LineFault;
 use qv_base::NoMemory;
@@ -63,158 +63,120 @@ fn links_a_unit(rt: HostRuntime) -> Result<(), Fail> {
         instr(Op::Push, 0),
         instr(Op::Leave, 24),
     ];
-    assert_eq!(rt; image.code.as_slice(), code.as_slice());
-    assert_eq!(rt; image.data_part.as_slice(), [0; 4].as_slice());
-    assert_eq!(rt; image.lit.len(), 0);
-    assert_eq!(rt; image.bss, 65_536);
+    assert!(rt; image.code.as_slice() == code.as_slice(), "{image:?}");
+    assert!(rt; holds(&image, &[0; 4], &[], 65_536), "{image:?}");
     Ok(())
 }
 
 // Zero bytes in each segment, a word of each kind, and a name of two files.
+const SEGMENTS: [&[u8]; 3] = [
+    b"LABELV $1\npop\ndata\nskip 3\nalign 8\naddress $1-1",
+    b"LABELV $1\npop\nlit\nbyte 1 265\nskip 2\nalign 8\nbyte 1 8\naddress $1",
+    b"equ x 258\nbss\nskip 5\nalign 4\nbyte 4 4294967295\naddress x",
+];
+
+// The data and the literals of `SEGMENTS`.
+const DATA: [u8; 24] = [
+    0, 0, 0, 0, 0, 0, 0, 0, 255, 255, 255, 255, 1, 0, 0, 0, 255, 255, 255, 255, 2, 1, 0, 0,
+];
+
+const LIT: [u8; 12] = [9, 0, 0, 0, 0, 0, 0, 0, 8, 0, 0, 0];
+
 #[test]
 fn links_segments(rt: HostRuntime) -> Result<(), Fail> {
-    let texts = [
-        b"LABELV $1\npop\ndata\nskip 3\nalign 8\naddress $1-1".as_slice(),
-        b"LABELV $1\npop\nlit\nbyte 1 265\nskip 2\nalign 8\nbyte 1 8\naddress $1".as_slice(),
-        b"equ x 258\nbss\nskip 5\nalign 4\nbyte 4 4294967295\naddress x".as_slice(),
-    ];
-    let image = link_texts(rt.alloc(), &texts)?;
-    let data = [
-        0, 0, 0, 0, 0, 0, 0, 0, 255, 255, 255, 255, 1, 0, 0, 0, 255, 255, 255, 255, 2, 1, 0, 0,
-    ];
-    assert_eq!(rt; image.data_part.as_slice(), data.as_slice());
-    let lit = [9, 0, 0, 0, 0, 0, 0, 0, 8, 0, 0, 0];
-    assert_eq!(rt; image.lit.as_slice(), lit.as_slice());
-    assert_eq!(rt; image.bss, 65_544);
+    let image = link_texts(rt.alloc(), &SEGMENTS)?;
+    assert!(rt; holds(&image, &DATA, &LIT, 65_544), "{image:?}");
     Ok(())
 }
 
-// Where a label stands, by the line that settles it.
+fn holds(image: &Image, data: &[u8], lit: &[u8], bss: u32) -> bool {
+    image.data_part.as_slice() == data && image.lit.as_slice() == lit && image.bss == bss
+}
+
+// Where a label x stands, by the line that settles it.
+const LABELS: [(&[u8], u32); 7] = [
+    (b"LABELV x", 1),
+    (b"data\nLABELV x\nbyte 1 1", 8),
+    (b"lit\nbyte 1 1\nLABELV x\naddress 0", 4),
+    (b"lit\nbyte 1 1\nbss\nskip 8\nLABELV x\nskip 4", 20),
+    (b"lit\nbyte 1 1\nLABELV x\nalign 4", 9),
+    (b"lit\nbyte 1 1\nLABELV x\ndata\nbyte 4 0", 13),
+    (b"lit\nbyte 1 1\nLABELV x", 9),
+];
+
 #[test]
 fn settles_labels(rt: HostRuntime) -> Result<(), Fail> {
-    let table: [(&[u8], u32); 7] = [
-        (b"LABELV x", 1),
-        (b"data\nLABELV x\nbyte 1 1", 8),
-        (b"lit\nbyte 1 1\nLABELV x\naddress 0", 4),
-        (b"lit\nbyte 1 1\nbss\nskip 8\nLABELV x\nskip 4", 20),
-        (b"lit\nbyte 1 1\nLABELV x\nalign 4", 9),
-        (b"lit\nbyte 1 1\nLABELV x\ndata\nbyte 4 0", 13),
-        (b"lit\nbyte 1 1\nLABELV x", 9),
-    ];
-    for (text, value) in table {
+    for &(text, value) in &LABELS {
         let image = link_texts(rt.alloc(), &[b"CNSTP4 x", text, b"data\naddress 0"])?;
-        assert_eq!(rt; image.code[0], instr(Op::Const, value));
+        assert!(rt; image.code[0] == instr(Op::Const, value), "{text:?}");
     }
     Ok(())
 }
 
+// The place of the 62nd argument is at byte 252.
+#[test]
+fn passes_arguments(rt: HostRuntime) -> Result<(), Fail> {
+    let text = b"ARGI4\n".repeat(rt.alloc(), 62)?;
+    let image = link_texts(rt.alloc(), &[&text])?;
+    assert!(rt; image.code.last() == Some(&instr(Op::Arg, 252)));
+    Ok(())
+}
+
+// Files that aren't linked, and the file, the line and the kind of their first fault.
+const REFUSALS: [(&[&[u8]], u32, u32, Kind<'static>); 11] = [
+    (
+        &[b"pop", b"\npop\nfoo"],
+        1,
+        3,
+        Kind::Line(LineFault::UnknownWord),
+    ),
+    (&[b"LABELV a", b"equ a 1"], 1, 1, Kind::Redefined(b"a")),
+    (
+        &[b"proc p 0 0\nproc p 32760 0"],
+        0,
+        2,
+        Kind::Redefined(b"p"),
+    ),
+    (
+        &[b"lit\nLABELV x\nbyte 1 1\naddress y"],
+        0,
+        4,
+        Kind::MixedSegments(b"x"),
+    ),
+    (&[b"proc p 0 0", b"endproc p 0 0"], 1, 1, Kind::OutsideProc),
+    (
+        &[b"ADDRGP4 $1", b"LABELV $1"],
+        0,
+        1,
+        Kind::UndefinedName(b"$1"),
+    ),
+    (&[b"LABELV x\nEQI4 x\nEQI4 x+2"], 0, 3, Kind::BranchFar),
+    (&[], 0, 0, Kind::EmptyCode),
+    (&[b"data\nbyte 4 1"], 1, 0, Kind::EmptyCode),
+    (
+        &[b"pop\ndata\nskip 4294967295\nlit\nskip 4294967295"],
+        1,
+        0,
+        Kind::DataTooLarge(8_590_000_132),
+    ),
+    (&[b"bss\nskip 67043325\npop\nRETV"], 0, 4, Kind::OutsideProc),
+];
+
 #[test]
 fn refuses(rt: HostRuntime) {
-    let table: [(&[&[u8]], u32, u32, Kind); 22] = [
-        (
-            &[b"pop", b"\npop\nfoo"],
-            1,
-            3,
-            Kind::Line(LineFault::UnknownWord),
-        ),
-        (&[b"LABELV a\nLABELV a"], 0, 2, Kind::Redefined(b"a")),
-        (&[b"LABELV a", b"equ a 1"], 1, 1, Kind::Redefined(b"a")),
-        (
-            &[b"proc p 0 0\nproc p 32760 0"],
-            0,
-            2,
-            Kind::Redefined(b"p"),
-        ),
-        (
-            &[b"data\nLABELV x\nbyte 4 1\nbyte 1 2"],
-            0,
-            4,
-            Kind::MixedSegments(b"x"),
-        ),
-        (
-            &[b"lit\nLABELV x\nbyte 1 1\naddress y"],
-            0,
-            4,
-            Kind::MixedSegments(b"x"),
-        ),
-        (&[b"skip 4"], 0, 1, Kind::WrongSegment),
-        (&[b"align 1"], 0, 1, Kind::WrongSegment),
-        (&[b"RETV"], 0, 1, Kind::OutsideProc),
-        (&[b"ADDRLP4 y"], 0, 1, Kind::OutsideProc),
-        (&[b"proc p 0 0", b"endproc p 0 0"], 1, 1, Kind::OutsideProc),
-        (
-            &[b"proc p 32756 0\nproc q 32753 1"],
-            0,
-            2,
-            Kind::FrameTooLarge,
-        ),
-        (&[b"proc p -1 0"], 0, 1, Kind::FrameTooLarge),
-        (
-            &[b"proc p 0 0\nADDRGP4 q\nJUMPV"],
-            0,
-            2,
-            Kind::UndefinedName(b"q"),
-        ),
-        (
-            &[b"ADDRGP4 $1", b"LABELV $1"],
-            0,
-            1,
-            Kind::UndefinedName(b"$1"),
-        ),
-        (&[b"EQI4 9"], 0, 1, Kind::BranchFar),
-        (&[b"LABELV x\nEQI4 x\nEQI4 x+2"], 0, 3, Kind::BranchFar),
-        (&[], 0, 0, Kind::EmptyCode),
-        (&[b"data\nbyte 4 1"], 1, 0, Kind::EmptyCode),
-        (
-            &[b"pop\nbss\nskip 67043325"],
-            1,
-            0,
-            Kind::DataTooLarge(67_108_868),
-        ),
-        (
-            &[b"pop\ndata\nskip 4294967295\nlit\nskip 4294967295"],
-            1,
-            0,
-            Kind::DataTooLarge(8_590_000_132),
-        ),
-        (&[b"bss\nskip 67043325\npop\nRETV"], 0, 4, Kind::OutsideProc),
-    ];
-    for (texts, file, line, kind) in table {
-        let refused = link_texts(rt.alloc(), texts);
+    for (texts, file, line, kind) in &REFUSALS {
         assert!(rt;
-            is_refused(&refused, Fault { file, line, kind }),
-            "{file} {line}"
+            is_refused(rt.alloc(), texts, *file, *line, kind),
+            "{texts:?}"
         );
     }
 }
 
-// The place of the 63rd argument is at byte 256.
-#[test]
-fn passes_arguments(rt: HostRuntime) -> Result<(), Fail> {
-    let alloc = rt.alloc();
-    let mut text = Vec::new(alloc);
-    for _ in 0..62 {
-        text.extend_from_slice(b"ARGI4\n")?;
+fn is_refused(alloc: Global, texts: &[&[u8]], file: u32, line: u32, kind: &Kind<'_>) -> bool {
+    match link_texts(alloc, texts) {
+        Ok(_) => false,
+        Err(fault) => fault.file == file && fault.line == line && is_kind(&fault.kind, kind),
     }
-    let image = link_texts(alloc, &[&text])?;
-    assert_eq!(rt; image.code.last(), Some(&instr(Op::Arg, 252)));
-    text.extend_from_slice(b"ARGI4\n")?;
-    let expected = Fault {
-        file: 0,
-        line: 63,
-        kind: Kind::ArgTooFar,
-    };
-    assert!(rt; is_refused(&link_texts(alloc, &[&text]), expected));
-    Ok(())
-}
-
-fn is_refused(linked: &Result<Image, AsmFault>, expected: Fault<'_>) -> bool {
-    let Err(fault) = linked else {
-        return false;
-    };
-    fault.file == expected.file
-        && fault.line == expected.line
-        && is_kind(&fault.kind, &expected.kind)
 }
 
 fn is_kind(kind: &AsmKind, expected: &Kind<'_>) -> bool {
@@ -224,12 +186,8 @@ fn is_kind(kind: &AsmKind, expected: &Kind<'_>) -> bool {
         | (AsmKind::MixedSegments(a), Kind::MixedSegments(b))
         | (AsmKind::UndefinedName(a), Kind::UndefinedName(b)) => a.bytes() == *b,
         (AsmKind::DataTooLarge(a), Kind::DataTooLarge(b)) => a == b,
-        (AsmKind::WrongSegment, Kind::WrongSegment)
-        | (AsmKind::OutsideProc, Kind::OutsideProc)
-        | (AsmKind::FrameTooLarge, Kind::FrameTooLarge)
-        | (AsmKind::ArgTooFar, Kind::ArgTooFar)
+        (AsmKind::OutsideProc, Kind::OutsideProc)
         | (AsmKind::BranchFar, Kind::BranchFar)
-        | (AsmKind::CodeTooLarge, Kind::CodeTooLarge)
         | (AsmKind::EmptyCode, Kind::EmptyCode) => true,
         _ => false,
     }

@@ -127,7 +127,7 @@ mod tests {
     use std::test::Fail;
 
     // The text of a module that adds 1 to its first argument.
-    const INCREMENT: &str = "\
+    const INCREMENT: &[u8] = b"\
 code
 op ENTER 8
 op LOCAL 16
@@ -144,7 +144,7 @@ skip 0
 ";
 
     // The text of `odd`.
-    const ODD: &str = "\
+    const ODD: &[u8] = b"\
 code
 op CONST -3
 op ARG 200
@@ -165,7 +165,7 @@ skip 5
 ";
 
     // The text of `small`.
-    const SMALL: &str = "code\nop PUSH\ndata\nlit\nbss\n";
+    const SMALL: &[u8] = b"code\nop PUSH\ndata\nlit\nbss\n";
 
     // What is linked to an image with data, literals and zero bytes.
     const FILLED: &[u8] = b"\
@@ -243,36 +243,34 @@ skip 3
         link(alloc, &[AsmFile { name, text }])
     }
 
+    // Whether the image is written as this text, which is linked to its instructions.
+    fn is_written(alloc: Global, image: &Image, expected: &[u8]) -> Result<bool, AsmFault> {
+        let text = disassemble(alloc, image)?;
+        let again = linked(alloc, &text)?;
+        Ok(text.as_slice() == expected && again.code.as_slice() == image.code.as_slice())
+    }
+
     #[test]
     fn writes_images(rt: HostRuntime) -> Result<(), Fail> {
         let alloc = rt.alloc();
-        let table = [
-            (increment(alloc)?, INCREMENT),
-            (odd(alloc)?, ODD),
-            (small(alloc)?, SMALL),
-        ];
-        for (image, expected) in &table {
-            let text = disassemble(alloc, image)?;
-            assert_eq!(rt; text.as_slice(), expected.as_bytes());
-            let again = linked(alloc, &text)?;
-            assert_eq!(rt; again.code.as_slice(), image.code.as_slice());
-        }
+        assert!(rt; is_written(alloc, &increment(alloc)?, INCREMENT)?);
+        assert!(rt; is_written(alloc, &odd(alloc)?, ODD)?);
+        assert!(rt; is_written(alloc, &small(alloc)?, SMALL)?);
         Ok(())
+    }
+
+    // Whether the image of the text has a text that is linked to the same image.
+    fn comes_back(alloc: Global, text: &[u8]) -> Result<bool, AsmFault> {
+        let image = linked(alloc, text)?;
+        let again = linked(alloc, &disassemble(alloc, &image)?)?;
+        let file = write_image(alloc, &image)?;
+        Ok(write_image(alloc, &again)?.as_slice() == file.as_slice())
     }
 
     #[test]
     fn linked_images_come_back(rt: HostRuntime) -> Result<(), Fail> {
-        let alloc = rt.alloc();
-        for text in [
-            INCREMENT.as_bytes(),
-            ODD.as_bytes(),
-            SMALL.as_bytes(),
-            FILLED,
-        ] {
-            let image = linked(alloc, text)?;
-            let again = linked(alloc, &disassemble(alloc, &image)?)?;
-            let file = write_image(alloc, &image)?;
-            assert_eq!(rt; write_image(alloc, &again)?.as_slice(), file.as_slice());
+        for text in [INCREMENT, ODD, SMALL, FILLED] {
+            assert!(rt; comes_back(rt.alloc(), text)?, "{text:?}");
         }
         Ok(())
     }

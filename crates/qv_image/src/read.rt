@@ -130,15 +130,49 @@ mod tests {
     use qv_ops::decode::CodeFault;
     use std::test::Fail;
 
+    // A place in the file and the bytes that are put there, and the first fault then.
+    const FAULTS: [(usize, &[u8], ImageFault); 18] = [
+        (0, &[0x45], ImageFault::BadMagic(309_466_181)),
+        (20, &[0xff; 4], ImageFault::NegativeLength(5)),
+        (23, &[0x80], ImageFault::NegativeLength(5)),
+        (27, &[0x80], ImageFault::NegativeLength(6)),
+        (31, &[0xff], ImageFault::NegativeLength(7)),
+        (4, &[0], ImageFault::NoCode),
+        (12, &[0], ImageFault::NoCode),
+        (15, &[0xff], ImageFault::NoCode),
+        (15, &[0x10], ImageFault::CodeTooLarge(0x1000_001c)),
+        (8, &[0xff; 4], ImageFault::CodeOutside),
+        (16, &[61], ImageFault::DataOutside),
+        (24, &[1], ImageFault::DataOutside),
+        (28, &[0, 0, 0, 4], ImageFault::DataTooLarge(67_108_868)),
+        (4, &[9], ImageFault::Code(CodeFault::CodeShort { at: 8 })),
+        (4, &[7], ImageFault::Code(CodeFault::TailLong { left: 5 })),
+        (
+            32,
+            &[0],
+            ImageFault::Code(CodeFault::BadOpcode { at: 0, op: 0 }),
+        ),
+        (
+            32,
+            &[60],
+            ImageFault::Code(CodeFault::BadOpcode { at: 0, op: 60 }),
+        ),
+        (
+            48,
+            &[56],
+            ImageFault::Code(CodeFault::FloatOpcode { at: 4, op: 56 }),
+        ),
+    ];
+
     #[test]
     fn reads_what_was_written(rt: HostRuntime) -> Result<(), Fail> {
         let alloc = rt.alloc();
-        let image = read_image(alloc, &FILE)?;
-        assert_eq!(rt; write_image(alloc, &image)?.as_slice(), FILE.as_slice());
         let mut longer = FILE.as_slice().to_vec(alloc)?;
         longer.extend_from_slice(&[1, 2, 3, 4])?;
-        let image = read_image(alloc, &longer)?;
-        assert_eq!(rt; write_image(alloc, &image)?.as_slice(), FILE.as_slice());
+        for file in [FILE.as_slice(), &longer] {
+            let image = read_image(alloc, file)?;
+            assert!(rt; write_image(alloc, &image)?.as_slice() == FILE.as_slice());
+        }
         Ok(())
     }
 
@@ -150,42 +184,25 @@ mod tests {
                 32..=59 => ImageFault::CodeOutside,
                 _ => ImageFault::DataOutside,
             };
-            assert_eq!(rt;
-                read_image(rt.alloc(), &FILE[..len]).err(),
-                Some(fault),
-                "{len}"
-            );
+            let found = read_image(rt.alloc(), &FILE[..len]).err();
+            assert!(rt; found == Some(fault), "{len}");
         }
     }
 
     #[test]
     fn tells_the_first_fault(rt: HostRuntime) {
-        let code = ImageFault::Code;
-        let table: [(usize, &[u8], ImageFault); 18] = [
-            (0, &[0x45], ImageFault::BadMagic(309_466_181)),
-            (20, &[0xff; 4], ImageFault::NegativeLength(5)),
-            (23, &[0x80], ImageFault::NegativeLength(5)),
-            (27, &[0x80], ImageFault::NegativeLength(6)),
-            (31, &[0xff], ImageFault::NegativeLength(7)),
-            (4, &[0], ImageFault::NoCode),
-            (12, &[0], ImageFault::NoCode),
-            (15, &[0xff], ImageFault::NoCode),
-            (15, &[0x10], ImageFault::CodeTooLarge(0x1000_001c)),
-            (8, &[0xff; 4], ImageFault::CodeOutside),
-            (16, &[61], ImageFault::DataOutside),
-            (24, &[1], ImageFault::DataOutside),
-            (28, &[0, 0, 0, 4], ImageFault::DataTooLarge(67_108_868)),
-            (4, &[9], code(CodeFault::CodeShort { at: 8 })),
-            (4, &[7], code(CodeFault::TailLong { left: 5 })),
-            (32, &[0], code(CodeFault::BadOpcode { at: 0, op: 0 })),
-            (32, &[60], code(CodeFault::BadOpcode { at: 0, op: 60 })),
-            (48, &[56], code(CodeFault::FloatOpcode { at: 4, op: 56 })),
-        ];
-        for (at, bytes, fault) in table {
-            assert!(rt; at < 60 && bytes.len() <= 4);
-            let mut file = FILE;
-            file[at..at + bytes.len()].copy_from_slice(bytes);
-            assert_eq!(rt; read_image(rt.alloc(), &file).err(), Some(fault), "{at}");
+        for (at, bytes, fault) in &FAULTS {
+            let found = fault_with(rt.alloc(), *at, bytes);
+            assert!(rt; found == Some(*fault), "{bytes:?} at {at}");
         }
+    }
+
+    // The first fault of the file with these bytes at a place in it.
+    fn fault_with(alloc: Global, at: usize, bytes: &[u8]) -> Option<ImageFault> {
+        let mut file = FILE;
+        file.get_mut(at..)?
+            .get_mut(..bytes.len())?
+            .copy_from_slice(bytes);
+        read_image(alloc, &file).err()
     }
 }

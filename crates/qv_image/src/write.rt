@@ -122,7 +122,8 @@ mod tests {
             lit: Vec::new(alloc),
             bss: 65536,
         };
-        assert_eq!(rt; write_image(alloc, &image)?.as_slice(), FILE.as_slice());
+        let file = write_image(alloc, &image)?;
+        assert!(rt; file.as_slice() == FILE.as_slice(), "{file:?}");
         Ok(())
     }
 }

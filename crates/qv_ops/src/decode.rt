@@ -140,68 +140,60 @@ mod tests {
     use crate::instr::encode;
     use std::test::Fail;
 
+    const INSTRS: [Instr; 3] = [
+        Instr {
+            op: Op::Const,
+            operand: 0x0102_0304,
+        },
+        Instr {
+            op: Op::Arg,
+            operand: 12,
+        },
+        Instr {
+            op: Op::Jump,
+            operand: 0,
+        },
+    ];
+
+    // Code, how many instructions it should have, and its first fault.
+    const FAULTS: [(&[u8], u32, Option<CodeFault>); 11] = [
+        (&[], 1, Some(CodeFault::CodeShort { at: 0 })),
+        (&[6, 8, 1, 0, 0], 2, Some(CodeFault::CodeShort { at: 1 })),
+        (&[6, 33], 2, Some(CodeFault::CodeShort { at: 1 })),
+        (&[0], 1, Some(CodeFault::BadOpcode { at: 0, op: 0 })),
+        (&[6, 60], 2, Some(CodeFault::BadOpcode { at: 1, op: 60 })),
+        (&[26], 1, Some(CodeFault::FloatOpcode { at: 0, op: 26 })),
+        (
+            &[6, 11, 2, 0, 0, 0],
+            2,
+            Some(CodeFault::BranchOut { at: 1 }),
+        ),
+        (&[6, 11, 1, 0, 0, 0], 2, None),
+        (&[6, 6, 6, 6], 1, None),
+        (&[6, 6, 6, 6, 6], 1, Some(CodeFault::TailLong { left: 4 })),
+        (
+            &[6, 6, 6, 6, 56],
+            5,
+            Some(CodeFault::FloatOpcode { at: 4, op: 56 }),
+        ),
+    ];
+
     #[test]
     fn cuts_what_was_encoded(rt: HostRuntime) -> Result<(), Fail> {
-        let alloc = rt.alloc();
-        let mut code = Vec::new(alloc);
-        for (op, operand) in [(Op::Const, 0x0102_0304), (Op::Arg, 12), (Op::Jump, 0)] {
-            encode(Instr { op, operand }, &mut code)?;
+        let mut code = Vec::new(rt.alloc());
+        for instr in INSTRS {
+            encode(instr, &mut code)?;
         }
-        let instrs = decode_all(alloc, &code, 3)?;
-        assert_eq!(rt; instrs.len(), 3);
-        assert_eq!(rt;
-            instrs[0],
-            Instr {
-                op: Op::Const,
-                operand: 0x0102_0304
-            }
-        );
-        assert_eq!(rt;
-            instrs[1],
-            Instr {
-                op: Op::Arg,
-                operand: 12
-            }
-        );
-        assert_eq!(rt;
-            instrs[2],
-            Instr {
-                op: Op::Jump,
-                operand: 0
-            }
-        );
+        let instrs = decode_all(rt.alloc(), &code, 3)?;
+        assert!(rt; instrs.as_slice() == INSTRS.as_slice(), "{instrs:?}");
         Ok(())
     }
 
     #[test]
     fn tells_the_first_fault(rt: HostRuntime) {
-        let table: [(&[u8], u32, Option<CodeFault>); 11] = [
-            (&[], 1, Some(CodeFault::CodeShort { at: 0 })),
-            (&[6, 8, 1, 0, 0], 2, Some(CodeFault::CodeShort { at: 1 })),
-            (&[6, 33], 2, Some(CodeFault::CodeShort { at: 1 })),
-            (&[0], 1, Some(CodeFault::BadOpcode { at: 0, op: 0 })),
-            (&[6, 60], 2, Some(CodeFault::BadOpcode { at: 1, op: 60 })),
-            (&[26], 1, Some(CodeFault::FloatOpcode { at: 0, op: 26 })),
-            (
-                &[6, 11, 2, 0, 0, 0],
-                2,
-                Some(CodeFault::BranchOut { at: 1 }),
-            ),
-            (&[6, 11, 1, 0, 0, 0], 2, None),
-            (&[6, 6, 6, 6], 1, None),
-            (&[6, 6, 6, 6, 6], 1, Some(CodeFault::TailLong { left: 4 })),
-            (
-                &[6, 6, 6, 6, 56],
-                5,
-                Some(CodeFault::FloatOpcode { at: 4, op: 56 }),
-            ),
-        ];
-        for (code, count, fault) in table {
-            assert_eq!(rt;
-                decode_all(rt.alloc(), code, count).err(),
-                fault,
-                "{code:?}"
-            );
+        for (code, count, fault) in &FAULTS {
+            let found = decode_all(rt.alloc(), code, *count).err();
+            assert!(rt; found == *fault, "{code:?}");
         }
     }
 }

@@ -51,7 +51,10 @@ mod tests {
         for (op, operand) in [(Op::Const, 0x0102_0304), (Op::Arg, 12), (Op::Add, 0)] {
             encode(Instr { op, operand }, &mut out)?;
         }
-        assert_eq!(rt; out.as_slice(), [8, 4, 3, 2, 1, 33, 12, 38].as_slice());
+        assert!(rt;
+            out.as_slice() == [8, 4, 3, 2, 1, 33, 12, 38].as_slice(),
+            "{out:?}"
+        );
         Ok(())
     }
 }

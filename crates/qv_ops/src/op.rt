@@ -358,66 +358,74 @@ pub fn width(op: Op) -> u32
 mod tests {
     use super::*;
 
+    // Each opcode with its number, the bytes of its operand and its name.
+    const TABLE: [(Op, u8, u32, &[u8]); 46] = [
+        (Op::Ignore, 1, 0, b"IGNORE"),
+        (Op::Break, 2, 0, b"BREAK"),
+        (Op::Enter, 3, 4, b"ENTER"),
+        (Op::Leave, 4, 4, b"LEAVE"),
+        (Op::Call, 5, 0, b"CALL"),
+        (Op::Push, 6, 0, b"PUSH"),
+        (Op::Pop, 7, 0, b"POP"),
+        (Op::Const, 8, 4, b"CONST"),
+        (Op::Local, 9, 4, b"LOCAL"),
+        (Op::Jump, 10, 0, b"JUMP"),
+        (Op::Eq, 11, 4, b"EQ"),
+        (Op::Ne, 12, 4, b"NE"),
+        (Op::Lti, 13, 4, b"LTI"),
+        (Op::Lei, 14, 4, b"LEI"),
+        (Op::Gti, 15, 4, b"GTI"),
+        (Op::Gei, 16, 4, b"GEI"),
+        (Op::Ltu, 17, 4, b"LTU"),
+        (Op::Leu, 18, 4, b"LEU"),
+        (Op::Gtu, 19, 4, b"GTU"),
+        (Op::Geu, 20, 4, b"GEU"),
+        (Op::Load1, 27, 0, b"LOAD1"),
+        (Op::Load2, 28, 0, b"LOAD2"),
+        (Op::Load4, 29, 0, b"LOAD4"),
+        (Op::Store1, 30, 0, b"STORE1"),
+        (Op::Store2, 31, 0, b"STORE2"),
+        (Op::Store4, 32, 0, b"STORE4"),
+        (Op::Arg, 33, 1, b"ARG"),
+        (Op::BlockCopy, 34, 4, b"BLOCK_COPY"),
+        (Op::Sex8, 35, 0, b"SEX8"),
+        (Op::Sex16, 36, 0, b"SEX16"),
+        (Op::Negi, 37, 0, b"NEGI"),
+        (Op::Add, 38, 0, b"ADD"),
+        (Op::Sub, 39, 0, b"SUB"),
+        (Op::Divi, 40, 0, b"DIVI"),
+        (Op::Divu, 41, 0, b"DIVU"),
+        (Op::Modi, 42, 0, b"MODI"),
+        (Op::Modu, 43, 0, b"MODU"),
+        (Op::Muli, 44, 0, b"MULI"),
+        (Op::Mulu, 45, 0, b"MULU"),
+        (Op::Band, 46, 0, b"BAND"),
+        (Op::Bor, 47, 0, b"BOR"),
+        (Op::Bxor, 48, 0, b"BXOR"),
+        (Op::Bcom, 49, 0, b"BCOM"),
+        (Op::Lsh, 50, 0, b"LSH"),
+        (Op::Rshi, 51, 0, b"RSHI"),
+        (Op::Rshu, 52, 0, b"RSHU"),
+    ];
+
+    // No names, or names of opcodes that have no variant.
+    const OTHERS: [&[u8]; 7] = [b"UNDEF", b"ADDF", b"EQF", b"add", b"ADD ", b"SEX", b""];
+
     #[test]
     fn follows_the_table(rt: HostRuntime) {
-        let table: [(Op, u8, u32, &[u8]); 46] = [
-            (Op::Ignore, 1, 0, b"IGNORE"),
-            (Op::Break, 2, 0, b"BREAK"),
-            (Op::Enter, 3, 4, b"ENTER"),
-            (Op::Leave, 4, 4, b"LEAVE"),
-            (Op::Call, 5, 0, b"CALL"),
-            (Op::Push, 6, 0, b"PUSH"),
-            (Op::Pop, 7, 0, b"POP"),
-            (Op::Const, 8, 4, b"CONST"),
-            (Op::Local, 9, 4, b"LOCAL"),
-            (Op::Jump, 10, 0, b"JUMP"),
-            (Op::Eq, 11, 4, b"EQ"),
-            (Op::Ne, 12, 4, b"NE"),
-            (Op::Lti, 13, 4, b"LTI"),
-            (Op::Lei, 14, 4, b"LEI"),
-            (Op::Gti, 15, 4, b"GTI"),
-            (Op::Gei, 16, 4, b"GEI"),
-            (Op::Ltu, 17, 4, b"LTU"),
-            (Op::Leu, 18, 4, b"LEU"),
-            (Op::Gtu, 19, 4, b"GTU"),
-            (Op::Geu, 20, 4, b"GEU"),
-            (Op::Load1, 27, 0, b"LOAD1"),
-            (Op::Load2, 28, 0, b"LOAD2"),
-            (Op::Load4, 29, 0, b"LOAD4"),
-            (Op::Store1, 30, 0, b"STORE1"),
-            (Op::Store2, 31, 0, b"STORE2"),
-            (Op::Store4, 32, 0, b"STORE4"),
-            (Op::Arg, 33, 1, b"ARG"),
-            (Op::BlockCopy, 34, 4, b"BLOCK_COPY"),
-            (Op::Sex8, 35, 0, b"SEX8"),
-            (Op::Sex16, 36, 0, b"SEX16"),
-            (Op::Negi, 37, 0, b"NEGI"),
-            (Op::Add, 38, 0, b"ADD"),
-            (Op::Sub, 39, 0, b"SUB"),
-            (Op::Divi, 40, 0, b"DIVI"),
-            (Op::Divu, 41, 0, b"DIVU"),
-            (Op::Modi, 42, 0, b"MODI"),
-            (Op::Modu, 43, 0, b"MODU"),
-            (Op::Muli, 44, 0, b"MULI"),
-            (Op::Mulu, 45, 0, b"MULU"),
-            (Op::Band, 46, 0, b"BAND"),
-            (Op::Bor, 47, 0, b"BOR"),
-            (Op::Bxor, 48, 0, b"BXOR"),
-            (Op::Bcom, 49, 0, b"BCOM"),
-            (Op::Lsh, 50, 0, b"LSH"),
-            (Op::Rshi, 51, 0, b"RSHI"),
-            (Op::Rshu, 52, 0, b"RSHU"),
-        ];
-        for (op, number, bytes, name) in table {
-            assert_eq!(rt; number_of(op), number, "number of {op:?}");
-            assert_eq!(rt; op_at(number), Some(op), "opcode {number}");
-            assert_eq!(rt; width(op), bytes, "width of {op:?}");
-            assert_eq!(rt; name_of(op).as_bytes(), name, "name of {op:?}");
-            assert_eq!(rt; op_named(name), Some(op), "opcode of {op:?}");
+        for &(op, number, bytes, name) in &TABLE {
+            assert!(rt; number_of(op) == number, "number of {op:?}");
+            assert!(rt; op_at(number) == Some(op), "opcode {number}");
+            assert!(rt; width(op) == bytes, "width of {op:?}");
+            assert!(rt; name_of(op).as_bytes() == name, "name of {op:?}");
+            assert!(rt; op_named(name) == Some(op), "opcode of {op:?}");
         }
-        let others: [&[u8]; 7] = [b"UNDEF", b"ADDF", b"EQF", b"add", b"ADD ", b"SEX", b""];
-        for name in others {
-            assert_eq!(rt; op_named(name), None, "{name:?}");
+    }
+
+    #[test]
+    fn has_no_other_names(rt: HostRuntime) {
+        for name in &OTHERS {
+            assert!(rt; op_named(name).is_none(), "{name:?}");
         }
     }
 }

@@ -108,11 +108,37 @@ mod tests {
     use qv_base::NoMemory;
     use std::test::Fail;
 
+    // The calls that fail, and then the length that is read, what a write answers, and the length
+    // that is read behind it.
+    type Row = (
+        &'static [u64],
+        Result<usize, FileFault>,
+        Result<(), WriteFault>,
+        Result<usize, FileFault>,
+    );
+
+    const ROWS: [Row; 4] = [
+        (&[], Ok(3), Ok(()), Ok(5)),
+        (&[0], Err(FileFault::Failed), Ok(()), Ok(5)),
+        (&[1], Ok(3), Err(WriteFault::Failed), Ok(3)),
+        (
+            &[0, 2],
+            Err(FileFault::Failed),
+            Ok(()),
+            Err(FileFault::Failed),
+        ),
+    ];
+
+    fn entry(alloc: Global, bytes: &[u8]) -> Result<(Name, Vec<u8>), NoMemory> {
+        Ok((Name::from_bytes(alloc, b"a")?, bytes.to_vec(alloc)?))
+    }
+
     // Files with two entries of one name.
     fn files(alloc: Global, fails: &[u64]) -> Result<MemFiles, NoMemory> {
-        let first = (Name::from_bytes(alloc, b"a")?, b"old".to_vec(alloc)?);
-        let second = (Name::from_bytes(alloc, b"a")?, b"shadowed".to_vec(alloc)?);
-        Ok(MemFiles::new(vec![in alloc; first, second]?, fails.to_vec(alloc)?))
+        let mut entries = Vec::new(alloc);
+        entries.push(entry(alloc, b"old")?)?;
+        entries.push(entry(alloc, b"shadowed")?)?;
+        Ok(MemFiles::new(entries, fails.to_vec(alloc)?))
     }
 
     // How long the file of that name is.
@@ -123,17 +149,11 @@ mod tests {
     #[test]
     fn fails_at_the_calls_listed(rt: HostRuntime) -> Result<(), Fail> {
         let alloc = rt.alloc();
-        let failed = Err(FileFault::Failed);
-        for (fails, first, written, second) in [
-            ([].as_slice(), Ok(3), Ok(()), Ok(5)),
-            ([0].as_slice(), failed, Ok(()), Ok(5)),
-            ([1].as_slice(), Ok(3), Err(WriteFault::Failed), Ok(3)),
-            ([0, 2].as_slice(), failed, Ok(()), failed),
-        ] {
+        for (fails, first, written, second) in &ROWS {
             let mut files = files(alloc, fails)?;
-            assert_eq!(rt; read_len(alloc, &mut files), first, "{fails:?}");
-            assert_eq!(rt; files.write(alloc, "a", b"newer"), written, "{fails:?}");
-            assert_eq!(rt; read_len(alloc, &mut files), second, "{fails:?}");
+            assert!(rt; read_len(alloc, &mut files) == *first, "{fails:?}");
+            assert!(rt; files.write(alloc, "a", b"newer") == *written, "{fails:?}");
+            assert!(rt; read_len(alloc, &mut files) == *second, "{fails:?}");
         }
         Ok(())
     }

@@ -92,20 +92,23 @@ mod tests {
     use super::*;
     use std::test::Fail;
 
+    // What is put, what that answers, and what was taken until then.
+    const PUTS: [(&[u8], Result<(), SinkFailed>, &[u8]); 6] = [
+        (b"ab", Ok(()), b"ab"),
+        (b"cd", Err(SinkFailed), b"ab"),
+        (b"c", Ok(()), b"abc"),
+        (b"xyz", Err(SinkFailed), b"abcx"),
+        (b"", Ok(()), b"abcx"),
+        (b"z", Err(SinkFailed), b"abcx"),
+    ];
+
     #[test]
     fn fails_at_the_puts_listed_and_at_full_room(rt: HostRuntime) -> Result<(), Fail> {
         let alloc = rt.alloc();
         let mut sink = MemSink::new(alloc, 4, [1].to_vec(alloc)?)?;
-        for (bytes, answer, taken) in [
-            (b"ab".as_slice(), Ok(()), b"ab".as_slice()),
-            (b"cd", Err(SinkFailed), b"ab"),
-            (b"c", Ok(()), b"abc"),
-            (b"xyz", Err(SinkFailed), b"abcx"),
-            (b"", Ok(()), b"abcx"),
-            (b"z", Err(SinkFailed), b"abcx"),
-        ] {
-            assert_eq!(rt; sink.put(bytes), answer, "{bytes:?}");
-            assert_eq!(rt; sink.bytes(), taken, "{bytes:?}");
+        for (bytes, answer, taken) in &PUTS {
+            assert!(rt; sink.put(bytes) == *answer, "{bytes:?}");
+            assert!(rt; sink.bytes() == *taken, "{bytes:?}");
         }
         Ok(())
     }

@@ -111,24 +111,23 @@ fn length_is_int(kinds: &[Kind], kind: Kind) -> bool
 mod tests {
     use super::*;
 
+    // Kinds of arguments, and whether they fit.
+    const ROWS: [(&[Kind], bool); 9] = [
+        (&[], true),
+        (&[Kind::Int, Kind::OutBytes(2), Kind::Int], true),
+        (&[Kind::Text, Kind::InBytes(2), Kind::Int], true),
+        (&[Kind::Int; 14], true),
+        (&[Kind::Int; 15], false),
+        (&[Kind::Text, Kind::Text, Kind::Text], false),
+        (&[Kind::OutBytes(1), Kind::Int, Kind::OutBytes(1)], false),
+        (&[Kind::InBytes(1), Kind::Text], false),
+        (&[Kind::InBytes(1)], false),
+    ];
+
     #[test]
     fn fits(rt: HostRuntime) {
-        let (int, text) = (Kind::Int, Kind::Text);
-        for (kinds, fits) in [
-            ([].as_slice(), true),
-            ([int, Kind::OutBytes(2), int].as_slice(), true),
-            ([text, Kind::InBytes(2), int].as_slice(), true),
-            ([int; 14].as_slice(), true),
-            ([int; 15].as_slice(), false),
-            ([text, text, text].as_slice(), false),
-            (
-                [Kind::OutBytes(1), int, Kind::OutBytes(1)].as_slice(),
-                false,
-            ),
-            ([Kind::InBytes(1), text].as_slice(), false),
-            ([Kind::InBytes(1)].as_slice(), false),
-        ] {
-            assert_eq!(rt; Sig::fits(kinds), fits, "{kinds:?}");
+        for (kinds, fits) in &ROWS {
+            assert!(rt; Sig::fits(kinds) == *fits, "{kinds:?}");
         }
     }
 }
