@@ -1,7 +1,7 @@
 -- What a command asks for, of the forms that are served.
-use Rattle.std.specs.Prelude.{ℕ, List, [], ◌∷◌, ◌++◌, codes, Option, Some, None, option_map, unwrap_or}
-use Rattle.std.specs.Path.{path_file_stem}
+use Rattle.std.specs.Prelude.{ℕ, List, [], ◌∷◌, ◌++◌, codes, Option, Some, None, option_map}
 use denote.Ref.{Bor}
+use Rattle.qv_words.specs.Names.{stem_of}
 use Rattle.qv_words.specs.Words.{Command, Qcc, Q3asm, Qdis, Qrun, Qall}
 
 pub data Task : Type 0 where
@@ -35,7 +35,7 @@ task_of (Qall dirs defs binds (Some seed_size) steps calls image units) = None
 
 -- the text of a unit stands in the folder under the unit's stem
 abbrev pub text_name : List ℕ → List ℕ → List ℕ
-text_name folder unit = folder ++ codes "/" ++ unwrap_or (path_file_stem unit) [] ++ codes ".asm"
+text_name folder unit = folder ++ codes "/" ++ stem_of unit ++ codes ".asm"
 
 -- a name that is lent, as its bytes
 abbrev pub name_shown : Option (Bor (List ℕ)) → Option (List ℕ)

@@ -13,8 +13,8 @@ use qcc_front::compile::compile;
 use qcc_front::unit::Unit;
 use qv_base::NoMemory;
 use qv_outside::files::Files;
+use qv_words::names::stem;
 use std::alloc::Global;
-use std::path::Path;
 
 /// Reads the unit and writes its text to the folder, under the unit's stem.
 pub fn qcc<F: Files>(
@@ -48,7 +48,7 @@ pub fn qcc<F: Files>(
 fn text_name(alloc: Global, folder: &str, unit: &str) -> Result<String, NoMemory>
     ensures { IfOk result (λ name. string_bytes name ≡ text_name folder.now unit.now) }
 {
-    let stem = Path::new(unit).file_stem().unwrap_or("");
+    let stem = stem(unit);
     let name = format!(in alloc; "{folder}/{stem}.asm")?;
     Ok(name)
 }

@@ -1,6 +1,7 @@
 -- Names: files, units and the stems of units.
-use Rattle.std.specs.Prelude.{ℕ, ◌-◌, Bool, true, false, ◌&&◌, ◌==◌, nat_lt, nat_le, not, List, [], ◌∷◌, length, take, drop, map, nat_eq, codes, if◌then◌else◌}
-use Rattle.std.specs.List.{list_all, list_any, ends_with}
+use Rattle.std.specs.Prelude.{ℕ, ◌-◌, Bool, true, false, ◌&&◌, ◌==◌, nat_lt, nat_le, not, List, [], ◌∷◌, length, drop, map, unwrap_or}
+use Rattle.std.specs.List.{list_all, list_any}
+use Rattle.std.specs.Path.{path_file_stem}
 use Rattle.std.specs.Str.{bytes_eq}
 
 abbrev pub begins_with_dash : List ℕ → Bool
@@ -30,21 +31,9 @@ are_files names = are_some names && list_all is_name names
 abbrev pub are_units : List (List ℕ) → Bool
 are_units names = are_some names && list_all is_unit_name names
 
-abbrev pub is_slash : ℕ → Bool
-is_slash b = b == 47
-
--- what stands behind the last slash, or all where there is none
-abbrev pub file_part : List ℕ → List ℕ
-file_part [] = []
-file_part (b ∷ bs) = if list_any is_slash bs then file_part bs else (if is_slash b then bs else b ∷ bs)
-
--- a name without an ending `.c`
-abbrev pub without_c : List ℕ → List ℕ
-without_c name = if ends_with nat_eq name (codes ".c") then take (length name - 2) name else name
-
--- the stem of a unit: what stands behind the last slash, without `.c`
+-- the stem of a unit: the name of its file without the ending
 abbrev pub stem_of : List ℕ → List ℕ
-stem_of unit = without_c (file_part unit)
+stem_of unit = unwrap_or (path_file_stem unit) []
 
 -- no two are alike
 abbrev pub are_distinct : List (List ℕ) → Bool

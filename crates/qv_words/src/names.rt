@@ -2,38 +2,18 @@
 ghost use Rattle.std.specs.Prelude.{◌≡◌, ◌≤◌, IsTrue, length, map, string_bytes};
 ghost use Rattle.std.specs.List.{list_any};
 ghost use Rattle.std.specs.Str.{bytes_eq};
-ghost use Rattle.qv_words.specs.Names.{begins_with_dash, is_name, is_c_ending, without_c, is_unit_name, are_some, are_files, are_units, file_part, stem_of, have_distinct_stems};
+ghost use Rattle.qv_words.specs.Names.{begins_with_dash, is_name, is_c_ending, is_unit_name, are_some, are_files, are_units, stem_of, have_distinct_stems};
+
+use std::path::Path;
 
 /// The most units or files of a command.
 pub const NAMES: usize = 4096;
 
-/// The stem of a unit: what stands behind its last slash, without an ending `.c`.
+/// The stem of a unit: the name of its file without the ending `.c`.
 pub fn stem(unit: &str) -> &str
     ensures { result.now ≡ stem_of unit.now }
 {
-    without_c(file_part(unit))
-}
-
-fn without_c(name: &str) -> &str
-    ensures { result.now ≡ without_c name.now }
-{
-    match name.strip_suffix(".c") {
-        Some(stem) => stem,
-        None => name,
-    }
-}
-
-// What stands behind the last slash, or all where there is none.
-fn file_part(unit: &str) -> &str
-    ensures { result.now ≡ file_part unit.now }
-{
-    let bytes = unit.as_bytes();
-    for at in (0..bytes.len()).rev() {
-        if bytes[at] == b'/' {
-            return &unit[at + 1..];
-        }
-    }
-    unit
+    Path::new(unit).file_stem().unwrap_or("")
 }
 
 /// Whether no two units have the same stem.
