@@ -43,6 +43,9 @@ pub const FRAME_BYTES: u32 = 32_767;
 /// The most bytes of a module's block of memory.
 pub const BLOCK_BYTES: u32 = 1 << 26;
 
+/// The bytes of the program stack, which linking adds and the machine keeps.
+pub const STACK_BYTES: u32 = 65_536;
+
 /// The most bytes of an image's code.
 pub const CODE_BYTES: u32 = 1 << 27;
 

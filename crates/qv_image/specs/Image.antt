@@ -1,6 +1,7 @@
 -- What an image says, and the bytes of its file.
 use Rattle.std.specs.Prelude.{ℕ, ◌+◌, ◌-◌, ◌%◌, ◌^◌, ◌<◌, ◌≤◌, IsTrue, List, [], ◌∷◌, ◌++◌, length, flat_map, replicate, All}
 use Rattle.std.specs.List.{list_all}
+use Rattle.qv_base.specs.declared.limits.TheConstants.{BLOCK_BYTES, CODE_BYTES}
 use Rattle.qv_ops.specs.declared.instr.Instr.{Instr}
 use Rattle.qv_ops.specs.Code.{word_bytes, code_bytes, is_encodable, stays_within}
 
@@ -22,12 +23,12 @@ padded_code code = code_bytes code ++ padding (code_bytes code)
 -- the limits that each image keeps
 pub record IsImage (z : Qvm) : Type 0 where
   pub some_code : 0 < length z.code
-  pub code_fits : length (padded_code z.code) ≤ 2 ^ 27
+  pub code_fits : length (padded_code z.code) ≤ CODE_BYTES
   pub encodable : IsTrue (list_all is_encodable z.code)
   pub branches_within : IsTrue (list_all (stays_within (length z.code)) z.code)
   pub data_bytes : All (λ b. b < 256) z.data_part
   pub lit_bytes : All (λ b. b < 256) z.lit
-  pub block_fits : length z.data_part + length z.lit + z.bss ≤ 2 ^ 26
+  pub block_fits : length z.data_part + length z.lit + z.bss ≤ BLOCK_BYTES
 
 -- the eight words of the header: magic, instruction count, code offset, code length, data offset, data
 -- length, lit length, bss length

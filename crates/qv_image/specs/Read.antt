@@ -1,5 +1,6 @@
 -- The image in a file's bytes, or the file's first fault.
 use Rattle.std.specs.Prelude.{◌≡◌, ℕ, ◌+◌, ◌^◌, ◌<◌, ◌≤◌, ◌==◌, nat_lt, nat_le, Bool, ◌||◌, not, List, length, take, drop, Result, Ok, Err, if◌then◌else◌}
+use Rattle.qv_base.specs.declared.limits.TheConstants.{BLOCK_BYTES, CODE_BYTES}
 use Rattle.qv_ops.specs.declared.instr.Instr.{Instr}
 use Rattle.qv_ops.specs.declared.decode.CodeFault.{CodeFault}
 use Rattle.qv_ops.specs.declared.decode.CodeFault.TheVariants.{NoMemory as NoMemoryForCode}
@@ -29,10 +30,10 @@ check_lengths h =
 abbrev pub check_parts : ℕ → Header → Result (Unit {0}) ImageFault
 check_parts len h =
     if is_negative h.code_len || h.code_len == 0 || h.count == 0 then Err NoCode
-    else (if nat_lt (2 ^ 27) h.code_len then Err (CodeTooLarge h.code_len)
+    else (if nat_lt CODE_BYTES h.code_len then Err (CodeTooLarge h.code_len)
     else (if nat_lt len (h.code_offset + h.code_len) then Err CodeOutside
     else (if nat_lt len (h.data_offset + h.data_len + h.lit_len) then Err DataOutside
-    else (if nat_lt (2 ^ 26) (h.data_len + h.lit_len + h.bss_len) then Err (DataTooLarge (h.data_len + h.lit_len + h.bss_len))
+    else (if nat_lt BLOCK_BYTES (h.data_len + h.lit_len + h.bss_len) then Err (DataTooLarge (h.data_len + h.lit_len + h.bss_len))
     else Ok tt))))
 
 -- a fault of these tests
@@ -44,10 +45,10 @@ IsOfHeader fault = Unit {0}
 -- what holds where these tests pass
 pub record HasParts (len : ℕ) (h : Header) : Type 0 where
   pub some_code : 0 < h.count
-  pub code_fits : h.code_len ≤ 2 ^ 27
+  pub code_fits : h.code_len ≤ CODE_BYTES
   pub code_inside : h.code_offset + h.code_len ≤ len
   pub data_inside : h.data_offset + h.data_len + h.lit_len ≤ len
-  pub block_fits : h.data_len + h.lit_len + h.bss_len ≤ 2 ^ 26
+  pub block_fits : h.data_len + h.lit_len + h.bss_len ≤ BLOCK_BYTES
 
 -- a part of the file
 abbrev pub part_of : List ℕ → ℕ → ℕ → List ℕ

@@ -1,6 +1,7 @@
 //! Images of modules.
 ghost use Rattle.std.specs.Prelude.{◌+◌, ◌^◌, ◌<◌, ◌≤◌, IsTrue, length};
 ghost use Rattle.std.specs.List.{list_all};
+ghost use Rattle.qv_base.specs.declared.limits.TheConstants.{BLOCK_BYTES, CODE_BYTES};
 ghost use Rattle.qv_ops.specs.Code.{is_encodable, stays_within};
 ghost use Rattle.qv_image.specs.Image.{padded_code};
 
@@ -24,9 +25,9 @@ pub struct Image {
     pub bss: u32,
     ghost some_code: { 0 < length code.items },
     // It follows from the next fact, since each instruction has a byte or more.
-    ghost count_fits: { length code.items ≤ 2 ^ 27 },
-    ghost code_fits: { length (padded_code code.items) ≤ 2 ^ 27 },
+    ghost count_fits: { length code.items ≤ CODE_BYTES },
+    ghost code_fits: { length (padded_code code.items) ≤ CODE_BYTES },
     ghost encodable: { IsTrue (list_all is_encodable code.items) },
     ghost branches_within: { IsTrue (list_all (stays_within (length code.items)) code.items) },
-    ghost block_fits: { length data_part.items + length lit.items + bss ≤ 2 ^ 26 },
+    ghost block_fits: { length data_part.items + length lit.items + bss ≤ BLOCK_BYTES },
 }

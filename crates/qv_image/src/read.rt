@@ -8,13 +8,9 @@ use crate::fault::ImageFault;
 use crate::header::{Header, MAGIC};
 use crate::image::Image;
 use qv_base::NoMemory;
+use qv_base::limits::{BLOCK_BYTES, CODE_BYTES};
 use qv_ops::decode::decode_all;
 use std::alloc::Global;
-
-// The most bytes that code and that data, literals and zero bytes together may take.
-const MAX_CODE_LEN: u32 = 1 << 27;
-
-const MAX_BLOCK_LEN: u64 = 1 << 26;
 
 /// The image in a file's bytes, as the Quake III 1.32 interpreter reads it.
 ///
@@ -82,7 +78,7 @@ fn parts_checked(len: usize, header: &Header) -> Result<(), ImageFault>
     if negative(header.code_len) || header.code_len == 0 || header.count == 0 {
         return Err(ImageFault::NoCode);
     }
-    if header.code_len > MAX_CODE_LEN {
+    if header.code_len > CODE_BYTES {
         return Err(ImageFault::CodeTooLarge(header.code_len));
     }
     if header.code_offset as usize + header.code_len as usize > len {
@@ -92,7 +88,7 @@ fn parts_checked(len: usize, header: &Header) -> Result<(), ImageFault>
         return Err(ImageFault::DataOutside);
     }
     let total = u64::from(header.data_len) + u64::from(header.lit_len) + u64::from(header.bss_len);
-    if total > MAX_BLOCK_LEN {
+    if total > u64::from(BLOCK_BYTES) {
         return Err(ImageFault::DataTooLarge(total));
     }
     Ok(())

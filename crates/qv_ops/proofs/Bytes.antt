@@ -2,6 +2,7 @@
 use Rattle.std.proofs.Common.{◌≡◌, ℕ, ◌+◌, ◌^◌, ◌<◌, ◌≤◌, Bool, true, false, nat_lt, nat_le, ◌&&◌, ◌||◌, not, IsTrue, List, [], ◌∷◌, ◌++◌, length, drop, Some, Result, Ok, refl, ap, ◌∙◌, arith, append_assoc}
 use Rattle.std.specs.List.{list_all}
 use Rattle.std.proofs.lemmas.Grind.{common_steps}
+use Rattle.std.proofs.Math.Seq.{drop-append_seam}
 use Rattle.byteorder.specs.Numbers.{little_number-reads_back}
 use Rattle.qv_ops.specs.declared.op.Op.{Op}
 use Rattle.qv_ops.specs.declared.op.Op.TheVariants.{Ignore, Enter, Leave, Const, Local, Eq, Ne, Lti, Lei, Gti, Gei, Ltu, Leu, Gtu, Geu, Arg, BlockCopy}
@@ -9,7 +10,7 @@ use Rattle.qv_ops.specs.declared.instr.Instr.{Instr}
 use Rattle.qv_ops.specs.declared.decode.CodeFault.{CodeFault}
 use Rattle.qv_ops.specs.Table.{number_of_op, width_of_op, op_numbered, is_branch}
 use Rattle.qv_ops.specs.Code.{operand_bytes, instr_bytes, code_bytes, fits_width, is_encodable, stays_within}
-use Rattle.qv_ops.specs.Cut.{operand_in, cut_op, cut_number, cut_one, cut_from, cut_code, with_instr}
+use Rattle.qv_ops.specs.Cut.{operand_in, cut_op, cut_number, cut_one, cut_from, cut_code, with_instr, CutsBack}
 use Rattle.qv_ops.proofs.Cut.{cut_from-end}
 
 -- each opcode has the number that it is read by
@@ -78,11 +79,16 @@ cut_op-operand_bytes count at op v rest later fits stays =
     let stay = not_leaves (is_branch op) count v stays in
     rw (r.long, r.operand, stay, r.behind) refl
 
-cut_one-instr_bytes : (count at : ℕ) (i : Instr) (rest : List ℕ) (later : List ℕ → Result (List Instr) CodeFault)
+pub cut_one-instr_bytes : (count at : ℕ) (i : Instr) (rest : List ℕ) (later : List ℕ → Result (List Instr) CodeFault)
     → IsTrue (is_encodable i) → IsTrue (stays_within count i) → cut_one count at (instr_bytes i ++ rest) later ≡ with_instr i (later rest)
 cut_one-instr_bytes count at i rest later fits stays =
     ap (λ o. cut_number count at (number_of_op i.op) o (operand_bytes (width_of_op i.op) i.operand ++ rest) later) (op_numbered-number_of_op i.op)
     ∙ cut_op-operand_bytes count at i.op i.operand rest later fits stays
+
+-- bytes that were appended are cut back
+pub cuts_back : (i : Instr) (old new : List ℕ) → new ≡ old ++ instr_bytes i → IsTrue (is_encodable i) → CutsBack i (drop (length old) new)
+cuts_back i old new e fits =
+    rw (e, drop-append_seam old (instr_bytes i)) (λ count at behind later stays. cut_one-instr_bytes count at i behind later fits stays)
 
 both_true : (a b : Bool) → IsTrue (a && b) → IsTrue a × IsTrue b
 both_true true b h = (refl, h)

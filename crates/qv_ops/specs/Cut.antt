@@ -57,6 +57,12 @@ abbrev pub CutsOne : ℕ → ℕ → List ℕ → Result (Instr × Lent (List �
 CutsOne count at bytes (Ok p) = (later : List ℕ → Result (List Instr) CodeFault) → cut_one count at bytes later ≡ with_instr p.0 (later p.1.now)
 CutsOne count at bytes (Err fault) = (later : List ℕ → Result (List Instr) CodeFault) → cut_one count at bytes later ≡ Err fault
 
+-- the bytes are the instruction: it is cut off their front, whatever stands behind them, at any place and
+-- any count that its branch stays within
+abbrev pub CutsBack : Instr → List ℕ → Type 0
+CutsBack i bytes = (count at : ℕ) (behind : List ℕ) (later : List ℕ → Result (List Instr) CodeFault) → IsTrue (stays_within count i)
+    → cut_one count at (bytes ++ behind) later ≡ with_instr i (later behind)
+
 -- the instruction fits its opcode and the count, and its bytes are as many as those in front of the bytes behind it
 pub record IsCutOff (count : ℕ) (bytes : List ℕ) (i : Instr) (behind : List ℕ) : Type 0 where
   pub encodable : IsTrue (is_encodable i)

@@ -6,7 +6,7 @@ ghost use Rattle.qv_ops.specs.Cut.{CutsOne, IsCut, IsCutOff, ReadsOperand, cut_c
 ghost use Rattle.qv_ops.specs.Table.{is_branch, width_of_op};
 
 use crate::instr::Instr;
-use crate::op::{Op, branches, is_float, op_at, width};
+use crate::op::{Op, is_branch, is_float, op_at, width};
 use byteorder::{ByteOrder, LittleEndian};
 use std::alloc::{AllocError, AllocFailed, Global};
 
@@ -110,7 +110,7 @@ fn decode_one(bytes: &[u8], at: u32, count: u32) -> Result<(Instr, &[u8]), CodeF
 fn leaves(op: Op, operand: u32, count: u32) -> bool
     ensures { result ≡ (is_branch op && nat_le count operand) }
 {
-    branches(op) && operand >= count
+    is_branch(op) && operand >= count
 }
 
 // The opcode's operand and the bytes behind it, and `None` where bytes are missing.

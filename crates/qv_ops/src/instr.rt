@@ -1,6 +1,7 @@
 //! Instructions and their bytes.
-ghost use Rattle.std.specs.Prelude.{◌≡◌, ◌++◌, OnOk, OnErr, IsTrue};
+ghost use Rattle.std.specs.Prelude.{◌≡◌, ◌++◌, OnOk, OnErr, IsTrue, drop, length};
 ghost use Rattle.qv_ops.specs.Code.{instr_bytes, is_encodable};
+ghost use Rattle.qv_ops.specs.Cut.{CutsBack};
 
 use crate::op::{Op, number_of, width};
 use byteorder::{ByteOrder, LittleEndian};
@@ -26,6 +27,9 @@ pub fn encode(instr: Instr, out: &mut Vec<u8>) -> Result<(), NoMemory>
     requires { IsTrue (is_encodable instr) }
     ensures ok { OnOk result (out.new.items ≡ out.old.items ++ instr_bytes instr) }
     ensures err { OnErr result (out.new.items ≡ out.old.items) }
+
+    // What was appended is cut back into the instruction.
+    ensures back { OnOk result (CutsBack instr (drop (length out.old.items) out.new.items)) }
 {
     let number = number_of(instr.op);
     match width(instr.op) {

@@ -310,8 +310,8 @@ pub(crate) fn is_float(number: u8) -> bool
     matches!(number, 21..=26 | 53..=59)
 }
 
-// Whether the opcode is a branch, which carries the number of an instruction.
-pub(crate) fn branches(op: Op) -> bool
+/// Whether the opcode is a branch, which carries the number of an instruction.
+pub fn is_branch(op: Op) -> bool
     ensures { result ≡ is_branch op }
 {
     matches!(
