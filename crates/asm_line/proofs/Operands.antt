@@ -9,16 +9,16 @@ use Rattle.std.proofs.Math.Seq.{take-add}
 use Rattle.std.proofs.lemmas.List.{append-nil, drop-drop, take-append-drop}
 use Rattle.asm_line.specs.Operand.{expression, expression_in, is_name, is_sign, number_of, pieces, total}
 use Rattle.asm_line.specs.Row.{constant}
-use Rattle.asm_line.specs.Read.{good, with_ok}
+use Rattle.asm_line.specs.Read.{checked, with_ok}
 use Rattle.asm_line.specs.Text.{onto, starts_with}
 use Rattle.asm_line.specs.Words.{meaning_of, suits, words_table}
 use Rattle.asm_line.specs.declared.words.Meaning.{Meaning}
 
--- a value seen otherwise is as good
-pub with_ok_good : {A B : Type 0} (f : A → B) (o : Option A) (ws : List (List ℕ)) → with_ok f (good o ws) ≡ good (option_map f o) ws
-with_ok_good f None ws = refl
-with_ok_good f (Some x) [] = refl
-with_ok_good f (Some x) (w ∷ ws) = refl
+-- a value seen otherwise is checked alike
+pub with_ok_checked : {A B : Type 0} (f : A → B) (o : Option A) (ws : List (List ℕ)) → with_ok f (checked o ws) ≡ checked (option_map f o) ws
+with_ok_checked f None ws = refl
+with_ok_checked f (Some x) [] = refl
+with_ok_checked f (Some x) (w ∷ ws) = refl
 
 both_true : (a b : Bool) → (a && b) ≡ true → (a ≡ true) × (b ≡ true)
 both_true true b h = (refl, h)

@@ -1,4 +1,6 @@
 pub mod Row
+pub mod Size
+pub mod Stands
 pub mod Text
 pub mod Operand
 pub mod Words

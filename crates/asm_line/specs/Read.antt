@@ -19,19 +19,19 @@ with_ok f (Ok x) = Ok (f x)
 with_ok f (Err fault) = Err fault
 
 -- this, where no word is left
-abbrev pub ended : {A : Type 0} → A → List (List ℕ) → Result A LineFault
-ended x [] = Ok x
-ended x (w ∷ ws) = Err ExtraWord
+abbrev pub end_of_line : {A : Type 0} → A → List (List ℕ) → Result A LineFault
+end_of_line x [] = Ok x
+end_of_line x (w ∷ ws) = Err ExtraWord
 
 -- what the operands come to, where they are as they are due and no word is left behind them
-abbrev pub good : {A : Type 0} → Option A → List (List ℕ) → Result A LineFault
-good None ws = Err BadNumber
-good (Some x) ws = ended x ws
+abbrev pub checked : {A : Type 0} → Option A → List (List ℕ) → Result A LineFault
+checked None ws = Err BadNumber
+checked (Some x) ws = end_of_line x ws
 
 -- what one word comes to, where it is there and no other is left
-abbrev pub alone : {A : Type 0} → (List ℕ → Option A) → List (List ℕ) → Result A LineFault
-alone read [] = Err MissingOperand
-alone read (w ∷ ws) = good (read w) ws
+abbrev pub sole_operand : {A : Type 0} → (List ℕ → Option A) → List (List ℕ) → Result A LineFault
+sole_operand read [] = Err MissingOperand
+sole_operand read (w ∷ ws) = checked (read w) ws
 
 -- the number that a word writes, where it passes the test
 abbrev pub number_that : (ℕ → Bool) → List ℕ → Option ℕ
@@ -51,7 +51,7 @@ is_alignment n = (n == 1) || (n == 2) || (n == 4) || (n == 8) || (n == 16)
 -- nothing, with a number or without
 abbrev pub maybe_number : List (List ℕ) → Result Row LineFault
 maybe_number [] = Ok Nothing
-maybe_number (w ∷ ws) = with_ok (λ n. Nothing) (good (number_of w) ws)
+maybe_number (w ∷ ws) = with_ok (λ n. Nothing) (checked (number_of w) ws)
 
 -- a name and two sizes
 abbrev pub procedure_row : Option (List ℕ) → Option ℕ → Option ℕ → Option Row
@@ -59,7 +59,7 @@ procedure_row (Some name) (Some locals) (Some args) = Some (Proc name locals arg
 procedure_row name locals args = None
 
 abbrev pub procedure : List (List ℕ) → Result Row LineFault
-procedure (name ∷ locals ∷ args ∷ ws) = good (procedure_row (name_of name) (number_of locals) (number_of args)) ws
+procedure (name ∷ locals ∷ args ∷ ws) = checked (procedure_row (name_of name) (number_of locals) (number_of args)) ws
 procedure ws = Err MissingOperand
 
 -- a name and its number
@@ -68,7 +68,7 @@ equation_row (Some name) (Some value) = Some (Equ name value)
 equation_row name value = None
 
 abbrev pub equation : List (List ℕ) → Result Row LineFault
-equation (name ∷ value ∷ ws) = good (equation_row (name_of name) (number_of value)) ws
+equation (name ∷ value ∷ ws) = checked (equation_row (name_of name) (number_of value)) ws
 equation ws = Err MissingOperand
 
 -- a number of 1 or 4 bytes. Half words are a fault of their own, whatever follows
@@ -84,7 +84,7 @@ is_two None = false
 is_two (Some n) = n == 2
 
 abbrev pub sized_bytes : Option ℕ → List (List ℕ) → Result Row LineFault
-sized_bytes size ws = if is_two size then Err Byte2 else alone (λ w. bytes_row size (number_of w)) ws
+sized_bytes size ws = if is_two size then Err Byte2 else sole_operand (λ w. bytes_row size (number_of w)) ws
 
 abbrev pub bytes : List (List ℕ) → Result Row LineFault
 bytes [] = Err MissingOperand
@@ -92,7 +92,7 @@ bytes (size ∷ ws) = sized_bytes (number_of size) ws
 
 -- an opcode with the number that it carries
 abbrev pub with_number : ℕ → Op → List (List ℕ) → Result Row LineFault
-with_number width op ws = if width == 0 then ended (One op (constant 0)) ws else with_ok (λ n. One op (constant n)) (alone (number_that (fits_width width)) ws)
+with_number width op ws = if width == 0 then end_of_line (One op (constant 0)) ws else with_ok (λ n. One op (constant n)) (sole_operand (number_that (fits_width width)) ws)
 
 abbrev pub raw_as : Option Op → List ℕ → List (List ℕ) → Result Row LineFault
 raw_as None name ws = Err (if is_float_name name then Float else UnknownWord)
@@ -105,25 +105,25 @@ raw (name ∷ ws) = raw_as (op_with_name name) name ws
 
 -- what a line stands for, by its first word's meaning and its other words
 abbrev pub row_as : Meaning → List (List ℕ) → Result Row LineFault
-row_as (Plain op) ws = ended (One op (constant 0)) ws
-row_as (WithExpression op) ws = with_ok (λ e. One op e) (alone expression ws)
-row_as LocalAddress ws = with_ok (λ e. LocalAt e) (alone expression ws)
-row_as ParamAddress ws = with_ok (λ e. ParamAt e) (alone expression ws)
-row_as CopiesBlock ws = with_ok (λ n. One BlockCopy (constant (round_up n))) (alone number_of ws)
-row_as Extends ws = with_ok (λ op. One op (constant 0)) (alone (λ w. option_and_then extension (number_of w)) ws)
+row_as (Plain op) ws = end_of_line (One op (constant 0)) ws
+row_as (WithExpression op) ws = with_ok (λ e. One op e) (sole_operand expression ws)
+row_as LocalAddress ws = with_ok (λ e. LocalAt e) (sole_operand expression ws)
+row_as ParamAddress ws = with_ok (λ e. ParamAt e) (sole_operand expression ws)
+row_as CopiesBlock ws = with_ok (λ n. One BlockCopy (constant (round_up n))) (sole_operand number_of ws)
+row_as Extends ws = with_ok (λ op. One op (constant 0)) (sole_operand (λ w. option_and_then extension (number_of w)) ws)
 row_as MaybeNumber ws = maybe_number ws
-row_as Argument ws = ended Arg ws
-row_as Calls ws = ended Call ws
-row_as Returns ws = ended Ret ws
+row_as Argument ws = end_of_line Arg ws
+row_as Calls ws = end_of_line Call ws
+row_as Returns ws = end_of_line Ret ws
 row_as Opens ws = procedure ws
 row_as Closes ws = with_ok (λ row. EndProc) (procedure ws)
-row_as (Segment segment) ws = ended (Into segment) ws
-row_as Labels ws = with_ok (λ name. Label name) (alone name_of ws)
+row_as (Segment segment) ws = end_of_line (Into segment) ws
+row_as Labels ws = with_ok (λ name. Label name) (sole_operand name_of ws)
 row_as Equates ws = equation ws
-row_as Addresses ws = with_ok (λ e. Word e) (alone expression ws)
+row_as Addresses ws = with_ok (λ e. Word e) (sole_operand expression ws)
 row_as Bytes ws = bytes ws
-row_as Skips ws = with_ok (λ n. Skip n) (alone number_of ws)
-row_as Aligns ws = with_ok (λ n. Align n) (alone (number_that is_alignment) ws)
+row_as Skips ws = with_ok (λ n. Skip n) (sole_operand number_of ws)
+row_as Aligns ws = with_ok (λ n. Align n) (sole_operand (number_that is_alignment) ws)
 row_as PassRest ws = Ok Nothing
 row_as Raw ws = raw ws
 row_as Floating ws = Err Float

@@ -10,7 +10,7 @@ pub record Expression : Type 0 where
   pub name : Option (List ℕ)
   pub add : ℕ
 
--- a number alone
+-- a number sole_operand
 abbrev pub constant : ℕ → Expression
 constant n = record { name = None; add = n }
 

@@ -4,7 +4,7 @@ ghost use Rattle.std.specs.Option.{option_and_then};
 ghost use Rattle.qv_ops.specs.Code.{fits_width};
 ghost use Rattle.qv_ops.specs.Table.{width_of_op};
 ghost use Rattle.asm_line.specs.Operand.{expression, name_of, number_of};
-ghost use Rattle.asm_line.specs.Read.{alone, bytes, bytes_row, ended, equation, extension, good, is_alignment, is_two, maybe_number, number_that, procedure, raw, read_row, round_up, row_as, sized_bytes, with_ok};
+ghost use Rattle.asm_line.specs.Read.{sole_operand, bytes, bytes_row, end_of_line, equation, extension, checked, is_alignment, is_two, maybe_number, number_that, procedure, raw, read_row, round_up, row_as, sized_bytes, with_ok};
 ghost use Rattle.asm_line.specs.Row.{Align, One, constant, is_carried};
 ghost use Rattle.asm_line.specs.Shown.{bytes_of, expression_of, row_of};
 ghost use Rattle.asm_line.specs.Text.{words_of};
@@ -43,22 +43,22 @@ fn line_as(meaning: Meaning, rest: &[u8]) -> Result<Line<'_>, LineFault>
     ensures carried { IfOk result (λ line. IsTrue (is_carried (row_of line))) }
 {
     match meaning {
-        Meaning::Plain(op) => ended(one(op, constant(0)), rest),
+        Meaning::Plain(op) => end_of_line(one(op, constant(0)), rest),
         Meaning::WithExpression(op) => Ok(one(op, only_expression(rest)?)),
         Meaning::LocalAddress => Ok(Line::LocalAt(only_expression(rest)?)),
         Meaning::ParamAddress => Ok(Line::ParamAt(only_expression(rest)?)),
         Meaning::CopiesBlock => Ok(one(Op::BlockCopy, constant(round_up(only_number(rest)?)))),
         Meaning::Extends => Ok(one(only_extension(rest)?, constant(0))),
         Meaning::MaybeNumber => maybe_number(rest),
-        Meaning::Argument => ended(Line::Arg, rest),
-        Meaning::Calls => ended(Line::Call, rest),
-        Meaning::Returns => ended(Line::Ret, rest),
+        Meaning::Argument => end_of_line(Line::Arg, rest),
+        Meaning::Calls => end_of_line(Line::Call, rest),
+        Meaning::Returns => end_of_line(Line::Ret, rest),
         Meaning::Opens => procedure(rest),
         Meaning::Closes => {
             procedure(rest)?;
             Ok(Line::EndProc)
         }
-        Meaning::Segment(segment) => ended(Line::Into(segment), rest),
+        Meaning::Segment(segment) => end_of_line(Line::Into(segment), rest),
         Meaning::Labels => Ok(Line::Label(only_name(rest)?)),
         Meaning::Equates => equation(rest),
         Meaning::Addresses => Ok(Line::Word(only_expression(rest)?)),
@@ -93,7 +93,7 @@ fn procedure(rest: &[u8]) -> Result<Line<'_>, LineFault>
     let (true, Some(locals), Some(args)) = (is_name(name), number(locals), number(args)) else {
         return Err(LineFault::BadNumber);
     };
-    ended(Line::Proc { name, locals, args }, rest)
+    end_of_line(Line::Proc { name, locals, args }, rest)
 }
 
 // A name and its number.
@@ -106,7 +106,7 @@ fn equation(rest: &[u8]) -> Result<Line<'_>, LineFault>
     let (true, Some(value)) = (is_name(name), number(value)) else {
         return Err(LineFault::BadNumber);
     };
-    ended(Line::Equ { name, value }, rest)
+    end_of_line(Line::Equ { name, value }, rest)
 }
 
 // A number of 1 or 4 bytes.
@@ -121,8 +121,8 @@ fn bytes<'a>(rest: &[u8]) -> Result<Line<'a>, LineFault>
     }
     let (value, rest) = operand(rest)?;
     match (size, number(value)) {
-        (Some(1), Some(value)) => ended(Line::LitByte((value % 256) as u8), rest),
-        (Some(4), Some(value)) => ended(Line::Word(constant(value)), rest),
+        (Some(1), Some(value)) => end_of_line(Line::LitByte((value % 256) as u8), rest),
+        (Some(4), Some(value)) => end_of_line(Line::Word(constant(value)), rest),
         _ => Err(LineFault::BadNumber),
     }
 }
@@ -137,7 +137,7 @@ fn raw<'a>(rest: &[u8]) -> Result<Line<'a>, LineFault>
         return Err(unknown_opcode(name));
     };
     if width(op) == 0 {
-        return ended(one(op, constant(0)), rest);
+        return end_of_line(one(op, constant(0)), rest);
     }
     Ok(one(op, constant(only_of_width(width(op), rest)?)))
 }
@@ -154,11 +154,11 @@ fn unknown_opcode(name: &[u8]) -> LineFault
 
 // The number that the only word left writes, where so many bytes hold it.
 fn only_of_width(width: u32, rest: &[u8]) -> Result<u32, LineFault>
-    ensures number { result ≡ alone (number_that (fits_width width)) (words_of rest.now) }
+    ensures number { result ≡ sole_operand (number_that (fits_width width)) (words_of rest.now) }
     ensures fits { IfOk result (λ n. IsTrue (fits_width width n)) }
 {
     let (word, rest) = operand(rest)?;
-    good(number_of_width(width, word), rest)
+    checked(number_of_width(width, word), rest)
 }
 
 // The number that a word writes, where so many bytes hold it.
@@ -185,10 +185,10 @@ fn fits_width(width: u32, n: u32) -> bool
 
 // The instruction that extends the sign of as many bytes as the only word left says.
 fn only_extension(rest: &[u8]) -> Result<Op, LineFault>
-    ensures { result ≡ alone (λ w. option_and_then extension (number_of w)) (words_of rest.now) }
+    ensures { result ≡ sole_operand (λ w. option_and_then extension (number_of w)) (words_of rest.now) }
 {
     let (word, rest) = operand(rest)?;
-    good(extension(word), rest)
+    checked(extension(word), rest)
 }
 
 fn extension(word: &[u8]) -> Option<Op>
@@ -203,10 +203,10 @@ fn extension(word: &[u8]) -> Option<Op>
 
 // The number that the only word left writes, where it is one that places are aligned to.
 fn only_alignment(rest: &[u8]) -> Result<u32, LineFault>
-    ensures { result ≡ alone (number_that is_alignment) (words_of rest.now) }
+    ensures { result ≡ sole_operand (number_that is_alignment) (words_of rest.now) }
 {
     let (word, rest) = operand(rest)?;
-    good(alignment(word), rest)
+    checked(alignment(word), rest)
 }
 
 fn alignment(word: &[u8]) -> Option<u32>
@@ -221,28 +221,28 @@ fn alignment(word: &[u8]) -> Option<u32>
 
 // The number that the only word left writes.
 fn only_number(rest: &[u8]) -> Result<u32, LineFault>
-    ensures { result ≡ alone number_of (words_of rest.now) }
+    ensures { result ≡ sole_operand number_of (words_of rest.now) }
 {
     let (word, rest) = operand(rest)?;
-    good(number(word), rest)
+    checked(number(word), rest)
 }
 
 // The name that is the only word left.
-#[tactic(auto, using(crate::proofs::Operands::with_ok_good))]
+#[tactic(auto, using(crate::proofs::Operands::with_ok_checked))]
 fn only_name(rest: &[u8]) -> Result<&[u8], LineFault>
-    ensures { with_ok bytes_of result ≡ alone name_of (words_of rest.now) }
+    ensures { with_ok bytes_of result ≡ sole_operand name_of (words_of rest.now) }
 {
     let (word, rest) = operand(rest)?;
-    good(is_name(word).then_some(word), rest)
+    checked(is_name(word).then_some(word), rest)
 }
 
 // The expression that the only word left writes.
-#[tactic(auto, using(crate::proofs::Operands::with_ok_good))]
+#[tactic(auto, using(crate::proofs::Operands::with_ok_checked))]
 fn only_expression(rest: &[u8]) -> Result<Value<'_>, LineFault>
-    ensures { with_ok expression_of result ≡ alone expression (words_of rest.now) }
+    ensures { with_ok expression_of result ≡ sole_operand expression (words_of rest.now) }
 {
     let (word, rest) = operand(rest)?;
-    good(expression(word), rest)
+    checked(expression(word), rest)
 }
 
 // The next word, and the line behind it.
@@ -253,8 +253,8 @@ fn operand(rest: &[u8]) -> Result<(&[u8], &[u8]), LineFault>
 }
 
 // What the operands come to, where they are as they are due and no word is left behind them.
-fn good<T: Copy>(operands: Option<T>, rest: &[u8]) -> Result<T, LineFault>
-    ensures { result ≡ good operands (words_of rest.now) }
+fn checked<T: Copy>(operands: Option<T>, rest: &[u8]) -> Result<T, LineFault>
+    ensures { result ≡ checked operands (words_of rest.now) }
 {
     let Some(value) = operands else {
         return Err(LineFault::BadNumber);
@@ -266,9 +266,9 @@ fn good<T: Copy>(operands: Option<T>, rest: &[u8]) -> Result<T, LineFault>
 }
 
 // The line, where no word is left.
-fn ended<'a>(line: Line<'a>, rest: &[u8]) -> Result<Line<'a>, LineFault>
+fn end_of_line<'a>(line: Line<'a>, rest: &[u8]) -> Result<Line<'a>, LineFault>
     requires { IsTrue (is_carried (row_of line)) }
-    ensures row { with_ok row_of result ≡ ended (row_of line.entry) (words_of rest.now) }
+    ensures row { with_ok row_of result ≡ end_of_line (row_of line.entry) (words_of rest.now) }
     ensures carried { IfOk result (λ line. IsTrue (is_carried (row_of line))) }
 {
     if next_word(rest).is_some() {

@@ -1,5 +1,4 @@
-pub mod Looking
-pub mod Gathering
-pub mod Reading
-pub mod Counts
+pub mod Noting
+pub mod Settling
+mod Counts
 pub mod Limits

@@ -1,6 +1,6 @@
 -- Lines without a fault come to an image within its limits.
 use Rattle.std.proofs.Common.{◌≡◌, ℕ, zero, suc, ◌+◌, ◌-◌, ◌*◌, ◌%◌, ◌^◌, ◌<◌, ◌≤◌, Bool, true, false, ◌&&◌, ◌||◌, List, [], ◌∷◌, ◌++◌, length, refl, sym, ap, ◌∙◌, arith, length-append}
-use Rattle.std.specs.Prelude.{Option, Some, None, IsTrue, is_none, not, nat_le, nat_lt, ◌==◌, flat_map, option_map, replicate, unwrap_or, if◌then◌else◌}
+use Rattle.std.specs.Prelude.{Option, Some, None, IsTrue, is_none, not, nat_le, nat_lt, ◌==◌, flat_map, map, option_map, replicate, unwrap_or, if◌then◌else◌}
 use Rattle.std.specs.List.{list_all}
 use Rattle.std.specs.Option.{option_or}
 use Rattle.std.proofs.lemmas.Bool.Decides.{nat_tests}
@@ -15,14 +15,16 @@ use Rattle.asm_line.specs.Row.{Row, fits_operand, is_carried, Proc, EndProc, One
 use Rattle.asm_line.specs.declared.line.AsmSegment.TheVariants.{Data, Lit}
 use Rattle.asm_link.specs.declared.fault.AsmKind.{AsmKind}
 use Rattle.asm_link.specs.declared.fault.AsmKind.TheVariants.{ArgTooFar, UndefinedName, BranchFar, CodeTooLarge, EmptyCode, DataTooLarge}
-use Rattle.asm_link.specs.Spot.{Entry, Spot, Read, carries, carries_entry}
-use Rattle.asm_link.specs.State.{Before, start, step}
-use Rattle.asm_place.specs.Size.{rounded, zeros_to}
-use Rattle.asm_link.specs.Names.{seen, seen_from, state_after, value_at, value_of, number_of_name}
+use Rattle.asm_line.specs.Size.{rounded, zeros_to}
+use Rattle.asm_line.specs.Stands.{frame_bytes, offset_by, open_sizes, resolved, sizes_of}
+use Rattle.asm_link.specs.Definitions.{number_of_name, state_after, value_at, value_of}
+use Rattle.asm_link.specs.Source.{Entry, SourceLine, Read, carries, carries_entry}
+use Rattle.asm_link.specs.State.{Before, row_code, start, step}
+use Rattle.asm_link.specs.Visits.{visits, visits_from}
 use Rattle.asm_link.specs.Faults.{when, unread, redefined, mixed, wrong_segment, outside_proc, too_large, too_far, undefined, undefined_value, is_past, branch_far, code_too_large, of_line, of_entry, kind_at}
-use Rattle.asm_link.specs.Image.{bytes_at, frame_of, frame_size, image_of, instrs_at, instrs_in, instrs_of, padded, word}
+use Rattle.asm_link.specs.Image.{bytes_at, code_at, entry_code, image_of, padded, word}
 use Rattle.asm_link.specs.Link.{fault_at, first_fault, block_size, end_kind}
-use Rattle.asm_link.proofs.Counts.{count-instrs, code_bytes-instrs, data_size-bytes, lit_size-bytes}
+use Rattle.asm_link.proofs.Counts.{count-code, code_bytes-code, data_size-bytes, lit_size-bytes}
 
 -- none of two is none of each
 
@@ -47,7 +49,7 @@ both_and a b h k = ap (λ x. x && b) h ∙ k
 
 -- a line without a fault
 
-line_well : (all : List Spot) (file : ℕ) (row : Row) (s : Before) → of_line all file row s ≡ None → (too_far row s ≡ None) × (undefined all file row ≡ None) × (branch_far all file row ≡ None)
+line_well : (all : List SourceLine) (file : ℕ) (row : Row) (s : Before) → of_line all file row s ≡ None → (too_far row s ≡ None) × (undefined all file row ≡ None) × (branch_far all file row ≡ None)
 line_well all file row s h =
     let far : Option AsmKind = option_or (too_far row s) (option_or (undefined all file row) (branch_far all file row)) in
     let a = or_none (mixed row s) (option_or (wrong_segment row s) (option_or (outside_proc row s) (option_or (too_large row) far))) h in
@@ -58,18 +60,18 @@ line_well all file row s h =
     let f = or_none (undefined all file row) (branch_far all file row) e.1 in
     (e.0, f.0, f.1)
 
-kind_well : (all : List Spot) (at : ℕ) (s : Before) (x : Spot) (behind : List Spot) → kind_at all (record { at = at; state = s; spot = x; behind = behind }) ≡ None → (of_entry all x.file x.entry s ≡ None) × (code_too_large (step s x) ≡ None)
-kind_well all at s x behind h =
+kind_well : (all : List SourceLine) (at : ℕ) (s : Before) (x : SourceLine) → kind_at all (record { at = at; before = s; line = x }) ≡ None → (of_entry all x.file x.entry s ≡ None) × (code_too_large (step s x) ≡ None)
+kind_well all at s x h =
     let rest : Option AsmKind = option_or (of_entry all x.file x.entry s) (code_too_large (step s x)) in
-    let a = or_none (unread x.entry) (option_or (redefined all (record { at = at; state = s; spot = x; behind = behind })) rest) h in
-    let b = or_none (redefined all (record { at = at; state = s; spot = x; behind = behind })) rest a.1 in
+    let a = or_none (unread x.entry) (option_or (redefined all (record { at = at; before = s; line = x })) rest) h in
+    let b = or_none (redefined all (record { at = at; before = s; line = x })) rest a.1 in
     or_none (of_entry all x.file x.entry s) (code_too_large (step s x)) b.1
 
-seen_well : (all : List Spot) (at : ℕ) (s : Before) (x : Spot) (xs : List Spot) → first_fault all (seen_from at s (x ∷ xs)) ≡ None → (of_entry all x.file x.entry s ≡ None) × (code_too_large (step s x) ≡ None) × (first_fault all (seen_from (at + 1) (step s x) xs) ≡ None)
+seen_well : (all : List SourceLine) (at : ℕ) (s : Before) (x : SourceLine) (xs : List SourceLine) → first_fault all (visits_from at s (x ∷ xs)) ≡ None → (of_entry all x.file x.entry s ≡ None) × (code_too_large (step s x) ≡ None) × (first_fault all (visits_from (at + 1) (step s x) xs) ≡ None)
 seen_well all at s x xs h =
-    let a = or_none (fault_at all (record { at = at; state = s; spot = x; behind = xs })) (first_fault all (seen_from (at + 1) (step s x) xs)) h in
-    let k : kind_at all (record { at = at; state = s; spot = x; behind = xs }) ≡ None = map_none (λ kind. record { file = x.file; line = x.line; kind = kind }) (kind_at all (record { at = at; state = s; spot = x; behind = xs })) a.0 in
-    let w = kind_well all at s x xs k in
+    let a = or_none (fault_at all (record { at = at; before = s; line = x })) (first_fault all (visits_from (at + 1) (step s x) xs)) h in
+    let k : kind_at all (record { at = at; before = s; line = x }) ≡ None = map_none (λ kind. record { file = x.file; line = x.line; kind = kind }) (kind_at all (record { at = at; before = s; line = x })) a.0 in
+    let w = kind_well all at s x k in
     (w.0, w.1, a.1)
 
 -- operands fit
@@ -93,31 +95,31 @@ arg_fits k h = grind (arith, nat_tests)
 is_four : (w : ℕ) → IsTrue (w == 4) → w ≡ 4
 is_four w h = grind (arith, nat_tests)
 
-one_fits : (all : List Spot) (file w : ℕ) (name : Option (List ℕ)) (add : ℕ) → IsTrue (fits_operand w name add) → IsTrue (fits_width w (word all file (record { name = name; add = add }) % 2 ^ 32))
+one_fits : (all : List SourceLine) (file w : ℕ) (name : Option (List ℕ)) (add : ℕ) → IsTrue (fits_operand w name add) → IsTrue (fits_width w (word all file (record { name = name; add = add }) % 2 ^ 32))
 one_fits all file w None add h = fits_mod w add h
 one_fits all file w (Some name) add h = fits_any w (word all file (record { name = Some name; add = add })) (is_four w h)
 
-encodable_row : (all : List Spot) (file : ℕ) (s : Before) (row : Row) → IsTrue (is_carried row) → too_far row s ≡ None → IsTrue (list_all is_encodable (instrs_of all file s row))
+encodable_row : (all : List SourceLine) (file : ℕ) (s : Before) (row : Row) → IsTrue (is_carried row) → too_far row s ≡ None → IsTrue (list_all is_encodable (map (resolved (word all file)) (row_code row s)))
 encodable_row all file s (One op v) w h = both_and (fits_width (width_of_op op) (word all file v % 2 ^ 32)) true (one_fits all file (width_of_op op) v.name v.add w) refl
 encodable_row all file s Arg w h = both_and (nat_lt ((8 + 4 * s.arg_words) % 2 ^ 32) 256) true (arg_fits s.arg_words h) refl
-encodable_row all file s (Proc name l a) w h = both_and (nat_lt ((8 + rounded l + rounded a) % 2 ^ 32) (2 ^ 32)) true (word_fits (8 + rounded l + rounded a)) refl
-encodable_row all file s EndProc w h = both_and (nat_lt (frame_size (frame_of s) % 2 ^ 32) (2 ^ 32)) true (word_fits (frame_size (frame_of s))) refl
-encodable_row all file s Ret w h = both_and (nat_lt (frame_size (frame_of s) % 2 ^ 32) (2 ^ 32)) true (word_fits (frame_size (frame_of s))) refl
-encodable_row all file s (LocalAt v) w h = both_and (nat_lt ((8 + (frame_of s).args + word all file v) % 2 ^ 32) (2 ^ 32)) true (word_fits (8 + (frame_of s).args + word all file v)) refl
-encodable_row all file s (ParamAt v) w h = both_and (nat_lt ((8 + frame_size (frame_of s) + word all file v) % 2 ^ 32) (2 ^ 32)) true (word_fits (8 + frame_size (frame_of s) + word all file v)) refl
+encodable_row all file s (Proc name l a) w h = both_and (nat_lt ((frame_bytes (sizes_of l a)) % 2 ^ 32) (2 ^ 32)) true (word_fits (frame_bytes (sizes_of l a))) refl
+encodable_row all file s EndProc w h = both_and (nat_lt (frame_bytes (open_sizes s.procedure) % 2 ^ 32) (2 ^ 32)) true (word_fits (frame_bytes (open_sizes s.procedure))) refl
+encodable_row all file s Ret w h = both_and (nat_lt (frame_bytes (open_sizes s.procedure) % 2 ^ 32) (2 ^ 32)) true (word_fits (frame_bytes (open_sizes s.procedure))) refl
+encodable_row all file s (LocalAt v) w h = both_and (nat_lt ((word all file (offset_by (8 + (open_sizes s.procedure).args) v)) % 2 ^ 32) (2 ^ 32)) true (word_fits (word all file (offset_by (8 + (open_sizes s.procedure).args) v))) refl
+encodable_row all file s (ParamAt v) w h = both_and (nat_lt ((word all file (offset_by (8 + frame_bytes (open_sizes s.procedure)) v)) % 2 ^ 32) (2 ^ 32)) true (word_fits (word all file (offset_by (8 + frame_bytes (open_sizes s.procedure)) v))) refl
 encodable_row all file s row w h = refl
 
-encodable_entry : (all : List Spot) (file : ℕ) (s : Before) (e : Entry) → IsTrue (carries_entry e) → of_entry all file e s ≡ None → IsTrue (list_all is_encodable (instrs_in all file s e))
+encodable_entry : (all : List SourceLine) (file : ℕ) (s : Before) (e : Entry) → IsTrue (carries_entry e) → of_entry all file e s ≡ None → IsTrue (list_all is_encodable (map (resolved (word all file)) (entry_code e s)))
 encodable_entry all file s (Read row) w h = encodable_row all file s row w (line_well all file row s h).0
 encodable_entry all file s e w h = refl
 
-encodable_seen : (all : List Spot) (at : ℕ) (xs : List Spot) (s : Before) → first_fault all (seen_from at s xs) ≡ None → IsTrue (list_all carries xs) → IsTrue (list_all is_encodable (flat_map (instrs_at all) (seen_from at s xs)))
+encodable_seen : (all : List SourceLine) (at : ℕ) (xs : List SourceLine) (s : Before) → first_fault all (visits_from at s xs) ≡ None → IsTrue (list_all carries xs) → IsTrue (list_all is_encodable (flat_map (code_at all) (visits_from at s xs)))
 encodable_seen all at [] s h w = refl
 encodable_seen all at (x ∷ xs) s h w =
     let k = seen_well all at s x xs h in
     let c = and_both (carries x) (list_all carries xs) w in
-    rw (list_all-append is_encodable (instrs_in all x.file s x.entry) (flat_map (instrs_at all) (seen_from (at + 1) (step s x) xs)))
-    (both_and (list_all is_encodable (instrs_in all x.file s x.entry)) (list_all is_encodable (flat_map (instrs_at all) (seen_from (at + 1) (step s x) xs))) (encodable_entry all x.file s x.entry c.0 k.0) (encodable_seen all (at + 1) xs (step s x) k.2 c.1))
+    rw (list_all-append is_encodable (map (resolved (word all x.file)) (entry_code x.entry s)) (flat_map (code_at all) (visits_from (at + 1) (step s x) xs)))
+    (both_and (list_all is_encodable (map (resolved (word all x.file)) (entry_code x.entry s))) (list_all is_encodable (flat_map (code_at all) (visits_from (at + 1) (step s x) xs))) (encodable_entry all x.file s x.entry c.0 k.0) (encodable_seen all (at + 1) xs (step s x) k.2 c.1))
 
 -- branches stay within the code
 
@@ -126,35 +128,35 @@ stays false o count h some = refl
 stays true None count h some = cc
 stays true (Some n) count h some = grind (arith, nat_tests, when_none (nat_le count n) BranchFar h)
 
-has_value : (all : List Spot) (file : ℕ) (name : List ℕ) (add : ℕ) (o : Option ℕ) → when (is_none o) (UndefinedName name) ≡ None → is_none (option_map (λ n. (n + add) % 2 ^ 32) o) ≡ false
+has_value : (all : List SourceLine) (file : ℕ) (name : List ℕ) (add : ℕ) (o : Option ℕ) → when (is_none o) (UndefinedName name) ≡ None → is_none (option_map (λ n. (n + add) % 2 ^ 32) o) ≡ false
 has_value all file name add None h = cc
 has_value all file name add (Some n) h = refl
 
-value_some : (all : List Spot) (file : ℕ) (name : Option (List ℕ)) (add : ℕ) → undefined_value all file name ≡ None → is_none (value_at all file name add) ≡ false
+value_some : (all : List SourceLine) (file : ℕ) (name : Option (List ℕ)) (add : ℕ) → undefined_value all file name ≡ None → is_none (value_at all file name add) ≡ false
 value_some all file None add h = refl
 value_some all file (Some name) add h = has_value all file name add (number_of_name all file name) h
 
-stays_row : (all : List Spot) (file : ℕ) (s : Before) (row : Row) → undefined all file row ≡ None → branch_far all file row ≡ None → IsTrue (list_all (stays_within (state_after start all).count) (instrs_of all file s row))
+stays_row : (all : List SourceLine) (file : ℕ) (s : Before) (row : Row) → undefined all file row ≡ None → branch_far all file row ≡ None → IsTrue (list_all (stays_within (state_after start all).count) (map (resolved (word all file)) (row_code row s)))
 stays_row all file s (One op v) u h = both_and (not (is_branch op) || nat_lt (word all file v % 2 ^ 32) (state_after start all).count) true (stays (is_branch op) (value_of all file v) (state_after start all).count h (value_some all file v.name v.add u)) refl
 stays_row all file s row u h = refl
 
-stays_entry : (all : List Spot) (file : ℕ) (s : Before) (e : Entry) → of_entry all file e s ≡ None → IsTrue (list_all (stays_within (state_after start all).count) (instrs_in all file s e))
+stays_entry : (all : List SourceLine) (file : ℕ) (s : Before) (e : Entry) → of_entry all file e s ≡ None → IsTrue (list_all (stays_within (state_after start all).count) (map (resolved (word all file)) (entry_code e s)))
 stays_entry all file s (Read row) h = let k = line_well all file row s h in stays_row all file s row k.1 k.2
 stays_entry all file s e h = refl
 
-stays_seen : (all : List Spot) (at : ℕ) (xs : List Spot) (s : Before) → first_fault all (seen_from at s xs) ≡ None → IsTrue (list_all (stays_within (state_after start all).count) (flat_map (instrs_at all) (seen_from at s xs)))
+stays_seen : (all : List SourceLine) (at : ℕ) (xs : List SourceLine) (s : Before) → first_fault all (visits_from at s xs) ≡ None → IsTrue (list_all (stays_within (state_after start all).count) (flat_map (code_at all) (visits_from at s xs)))
 stays_seen all at [] s h = refl
 stays_seen all at (x ∷ xs) s h =
     let k = seen_well all at s x xs h in
-    rw (list_all-append (stays_within (state_after start all).count) (instrs_in all x.file s x.entry) (flat_map (instrs_at all) (seen_from (at + 1) (step s x) xs)))
-    (both_and (list_all (stays_within (state_after start all).count) (instrs_in all x.file s x.entry)) (list_all (stays_within (state_after start all).count) (flat_map (instrs_at all) (seen_from (at + 1) (step s x) xs))) (stays_entry all x.file s x.entry k.0) (stays_seen all (at + 1) xs (step s x) k.2))
+    rw (list_all-append (stays_within (state_after start all).count) (map (resolved (word all x.file)) (entry_code x.entry s)) (flat_map (code_at all) (visits_from (at + 1) (step s x) xs)))
+    (both_and (list_all (stays_within (state_after start all).count) (map (resolved (word all x.file)) (entry_code x.entry s))) (list_all (stays_within (state_after start all).count) (flat_map (code_at all) (visits_from (at + 1) (step s x) xs))) (stays_entry all x.file s x.entry k.0) (stays_seen all (at + 1) xs (step s x) k.2))
 
 -- the code fits
 
 fits_step : (n : ℕ) → when (nat_lt (2 ^ 27) n) CodeTooLarge ≡ None → n ≤ 2 ^ 27
 fits_step n h = grind (arith, nat_tests, when_none (nat_lt (2 ^ 27) n) CodeTooLarge h)
 
-code_small : (all : List Spot) (at : ℕ) (xs : List Spot) (s : Before) → s.code_bytes ≤ 2 ^ 27 → first_fault all (seen_from at s xs) ≡ None → (state_after s xs).code_bytes ≤ 2 ^ 27
+code_small : (all : List SourceLine) (at : ℕ) (xs : List SourceLine) (s : Before) → s.code_bytes ≤ 2 ^ 27 → first_fault all (visits_from at s xs) ≡ None → (state_after s xs).code_bytes ≤ 2 ^ 27
 code_small all at [] s small h = small
 code_small all at (x ∷ xs) s small h =
     let k = seen_well all at s x xs h in
@@ -191,29 +193,29 @@ at_most n m h = grind (arith, nat_tests)
 
 -- the limits of the image of all lines
 
-pub some_code : (all : List Spot) → end_kind (state_after start all) ≡ None → 0 < length (image_of all).code
-some_code all h = omega (arith, positive (state_after start all).count (end_well (state_after start all) h).0, count-instrs all 0 all start)
+pub some_code : (all : List SourceLine) → end_kind (state_after start all) ≡ None → 0 < length (image_of all).code
+some_code all h = omega (arith, positive (state_after start all).count (end_well (state_after start all) h).0, count-code all 0 all start)
 
-code_bytes_fit : (all : List Spot) → first_fault all (seen all) ≡ None → length (code_bytes (image_of all).code) ≤ 2 ^ 27
-code_bytes_fit all h = omega (arith, code_small all 0 all start (omega arith) h, code_bytes-instrs all 0 all start)
+code_bytes_fit : (all : List SourceLine) → first_fault all (visits all) ≡ None → length (code_bytes (image_of all).code) ≤ 2 ^ 27
+code_bytes_fit all h = omega (arith, code_small all 0 all start (omega arith) h, code_bytes-code all 0 all start)
 
-pub code_fits : (all : List Spot) → first_fault all (seen all) ≡ None → length (padded_code (image_of all).code) ≤ 2 ^ 27
+pub code_fits : (all : List SourceLine) → first_fault all (visits all) ≡ None → length (padded_code (image_of all).code) ≤ 2 ^ 27
 code_fits all h = length-padded_code (image_of all).code (code_bytes_fit all h)
 
-pub count_fits : (all : List Spot) → first_fault all (seen all) ≡ None → length (image_of all).code ≤ 2 ^ 27
+pub count_fits : (all : List SourceLine) → first_fault all (visits all) ≡ None → length (image_of all).code ≤ 2 ^ 27
 count_fits all h = omega (arith, code_bytes_fit all h, length-code_bytes (image_of all).code)
 
-pub encodable : (all : List Spot) → first_fault all (seen all) ≡ None → IsTrue (list_all carries all) → IsTrue (list_all is_encodable (image_of all).code)
+pub encodable : (all : List SourceLine) → first_fault all (visits all) ≡ None → IsTrue (list_all carries all) → IsTrue (list_all is_encodable (image_of all).code)
 encodable all h w = encodable_seen all 0 all start h w
 
-pub branches_within : (all : List Spot) → first_fault all (seen all) ≡ None → IsTrue (list_all (stays_within (length (image_of all).code)) (image_of all).code)
+pub branches_within : (all : List SourceLine) → first_fault all (visits all) ≡ None → IsTrue (list_all (stays_within (length (image_of all).code)) (image_of all).code)
 branches_within all h =
-    let e : (state_after start all).count ≡ length (image_of all).code = omega (arith, count-instrs all 0 all start) in
+    let e : (state_after start all).count ≡ length (image_of all).code = omega (arith, count-code all 0 all start) in
     ap (λ n. list_all (stays_within n) (image_of all).code) (sym e) ∙ stays_seen all 0 all start h
 
-pub block_fits : (all : List Spot) → end_kind (state_after start all) ≡ None → length (image_of all).data_part + length (image_of all).lit + (image_of all).bss ≤ 2 ^ 26
+pub block_fits : (all : List SourceLine) → end_kind (state_after start all) ≡ None → length (image_of all).data_part + length (image_of all).lit + (image_of all).bss ≤ 2 ^ 26
 block_fits all h =
     let fits : block_size (state_after start all) ≤ 2 ^ 26 = at_most (block_size (state_after start all)) (2 ^ 26) (end_well (state_after start all) h).1 in
-    let d : length (replicate 4 0 ++ flat_map (bytes_at all Data) (seen all)) ≡ (state_after start all).data_size = omega (arith, data_size-bytes all 0 all start) in
-    let l : length (flat_map (bytes_at all Lit) (seen all)) ≡ (state_after start all).lit_size = omega (arith, lit_size-bytes all 0 all start) in
-    omega (arith, fits, d, l, length-padded (replicate 4 0 ++ flat_map (bytes_at all Data) (seen all)), length-padded (flat_map (bytes_at all Lit) (seen all)))
+    let d : length (replicate 4 0 ++ flat_map (bytes_at all Data) (visits all)) ≡ (state_after start all).data_size = omega (arith, data_size-bytes all 0 all start) in
+    let l : length (flat_map (bytes_at all Lit) (visits all)) ≡ (state_after start all).lit_size = omega (arith, lit_size-bytes all 0 all start) in
+    omega (arith, fits, d, l, length-padded (replicate 4 0 ++ flat_map (bytes_at all Data) (visits all)), length-padded (flat_map (bytes_at all Lit) (visits all)))

@@ -3,15 +3,16 @@ use Rattle.std.specs.Prelude.{ℕ, ◌+◌, ◌*◌, ◌^◌, ◌==◌, nat_lt, 
 use Rattle.std.specs.Option.{option_or}
 use Rattle.qv_ops.specs.Table.{is_branch}
 use Rattle.asm_line.specs.Row.{Row, Proc, EndProc, One, Arg, Ret, LocalAt, ParamAt, Word, LitByte, Skip, Align}
+use Rattle.asm_line.specs.Stands.{frame_bytes, sizes_of}
 use Rattle.asm_line.specs.declared.line.AsmSegment.{AsmSegment}
-use Rattle.asm_line.specs.declared.line.AsmSegment.TheVariants.{Code, Data, Lit, Bss}
+use Rattle.asm_line.specs.declared.line.AsmSegment.TheVariants.{Code, Data, Lit}
 use Rattle.asm_link.specs.declared.fault.AsmKind.{AsmKind}
 use Rattle.asm_link.specs.declared.fault.AsmKind.TheVariants.{Line, Redefined, MixedSegments, WrongSegment, OutsideProc, FrameTooLarge, ArgTooFar, UndefinedName, BranchFar, CodeTooLarge}
-use Rattle.asm_place.specs.Size.{rounded}
-use Rattle.asm_link.specs.declared.names.Known.{Known}
-use Rattle.asm_link.specs.Spot.{Entry, Spot, Read, Unread}
-use Rattle.asm_link.specs.State.{Before, step, start}
-use Rattle.asm_link.specs.Names.{Seen, known, entry_name, value_of, number_of_name, state_after}
+use Rattle.asm_link.specs.declared.known.Known.{Known}
+use Rattle.asm_link.specs.Definitions.{known, name_in, value_of, number_of_name, state_after}
+use Rattle.asm_link.specs.Source.{Entry, SourceLine, Read, Unread}
+use Rattle.asm_link.specs.State.{Before, is_segment, step, start}
+use Rattle.asm_link.specs.Visits.{Visit}
 
 -- this fault, where the test holds
 abbrev pub when : Bool → AsmKind → Option AsmKind
@@ -27,21 +28,13 @@ abbrev pub is_other : ℕ → Option Known → Bool
 is_other at None = false
 is_other at (Some k) = not (k.at == at)
 
-abbrev pub redefined_by : List Spot → Seen → Option (List ℕ) → Option AsmKind
-redefined_by all v None = None
-redefined_by all v (Some name) = when (is_other v.at (known all v.spot.file name)) (Redefined name)
+abbrev pub redefined_by : List SourceLine → ℕ → ℕ → Option (List ℕ) → Option AsmKind
+redefined_by all at file None = None
+redefined_by all at file (Some name) = when (is_other at (known all file name)) (Redefined name)
 
 -- the line defines a name that is defined before
-abbrev pub redefined : List Spot → Seen → Option AsmKind
-redefined all v = redefined_by all v (entry_name v.spot.entry)
-
--- whether two segments are one
-abbrev pub is_segment : AsmSegment → AsmSegment → Bool
-is_segment Code Code = true
-is_segment Data Data = true
-is_segment Lit Lit = true
-is_segment Bss Bss = true
-is_segment a b = false
+abbrev pub redefined : List SourceLine → Visit → Option AsmKind
+redefined all v = redefined_by all v.at v.line.file (name_in v.line.entry)
 
 -- a word or byte goes to another segment, while no label waits and a settled one is kept
 abbrev pub mixed_in : AsmSegment → Before → Option (List ℕ) → Option AsmKind
@@ -61,15 +54,15 @@ wrong_segment line s = None
 
 -- the line has to stand in a procedure, and none is open
 abbrev pub outside_proc : Row → Before → Option AsmKind
-outside_proc EndProc s = when (is_none s.frame) OutsideProc
-outside_proc Ret s = when (is_none s.frame) OutsideProc
-outside_proc (LocalAt value) s = when (is_none s.frame) OutsideProc
-outside_proc (ParamAt value) s = when (is_none s.frame) OutsideProc
+outside_proc EndProc s = when (is_none s.procedure) OutsideProc
+outside_proc Ret s = when (is_none s.procedure) OutsideProc
+outside_proc (LocalAt value) s = when (is_none s.procedure) OutsideProc
+outside_proc (ParamAt value) s = when (is_none s.procedure) OutsideProc
 outside_proc line s = None
 
 -- the procedure's frame takes 32,767 bytes or more
 abbrev pub too_large : Row → Option AsmKind
-too_large (Proc name locals args) = when (nat_le 32767 (8 + rounded locals + rounded args)) FrameTooLarge
+too_large (Proc name locals args) = when (nat_le 32767 (frame_bytes (sizes_of locals args))) FrameTooLarge
 too_large line = None
 
 -- the argument's place is at byte 256 or behind
@@ -78,11 +71,11 @@ too_far Arg s = when (nat_le 256 (8 + 4 * s.arg_words)) ArgTooFar
 too_far line s = None
 
 -- the expression has a name that no line defines
-abbrev pub undefined_value : List Spot → ℕ → Option (List ℕ) → Option AsmKind
+abbrev pub undefined_value : List SourceLine → ℕ → Option (List ℕ) → Option AsmKind
 undefined_value all file None = None
 undefined_value all file (Some name) = when (is_none (number_of_name all file name)) (UndefinedName name)
 
-abbrev pub undefined : List Spot → ℕ → Row → Option AsmKind
+abbrev pub undefined : List SourceLine → ℕ → Row → Option AsmKind
 undefined all file (One op value) = undefined_value all file value.name
 undefined all file (LocalAt value) = undefined_value all file value.name
 undefined all file (ParamAt value) = undefined_value all file value.name
@@ -95,7 +88,7 @@ is_past count None = false
 is_past count (Some n) = nat_le count n
 
 -- the branch goes to no instruction
-abbrev pub branch_far : List Spot → ℕ → Row → Option AsmKind
+abbrev pub branch_far : List SourceLine → ℕ → Row → Option AsmKind
 branch_far all file (One op value) = when (is_branch op && is_past (state_after start all).count (value_of all file value)) BranchFar
 branch_far all file line = None
 
@@ -104,14 +97,14 @@ abbrev pub code_too_large : Before → Option AsmKind
 code_too_large after = when (nat_lt (2 ^ 27) after.code_bytes) CodeTooLarge
 
 -- the first of these faults of a line that can be read
-abbrev pub of_line : List Spot → ℕ → Row → Before → Option AsmKind
+abbrev pub of_line : List SourceLine → ℕ → Row → Before → Option AsmKind
 of_line all file line s =
     option_or (mixed line s) (option_or (wrong_segment line s) (option_or (outside_proc line s) (option_or (too_large line) (option_or (too_far line s) (option_or (undefined all file line) (branch_far all file line))))))
 
-abbrev pub of_entry : List Spot → ℕ → Entry → Before → Option AsmKind
+abbrev pub of_entry : List SourceLine → ℕ → Entry → Before → Option AsmKind
 of_entry all file (Read line) s = of_line all file line s
 of_entry all file entry s = None
 
 -- the first fault of a line
-abbrev pub kind_at : List Spot → Seen → Option AsmKind
-kind_at all v = option_or (unread v.spot.entry) (option_or (redefined all v) (option_or (of_entry all v.spot.file v.spot.entry v.state) (code_too_large (step v.state v.spot))))
+abbrev pub kind_at : List SourceLine → Visit → Option AsmKind
+kind_at all v = option_or (unread v.line.entry) (option_or (redefined all v) (option_or (of_entry all v.line.file v.line.entry v.before) (code_too_large (step v.before v.line))))

@@ -1,8 +1,11 @@
-pub mod Spot
+pub mod Source
 pub mod State
-pub mod Names
+pub mod Visits
+pub mod Definitions
 pub mod Faults
 pub mod Image
 pub mod Link
-pub mod Known
+pub mod Held
+pub mod Lookup
+pub mod Reader
 pub mod Shown

@@ -7,19 +7,20 @@ use Rattle.qv_image.specs.Shown.{qvm_of}
 use Rattle.asm_link.specs.declared.fault.AsmFault.{AsmFault}
 use Rattle.asm_link.specs.declared.fault.AsmKind.{AsmKind}
 use Rattle.asm_link.specs.declared.fault.AsmKind.TheVariants.{EmptyCode, DataTooLarge, NoMemory}
-use Rattle.asm_link.specs.Spot.{Spot, spots_of}
-use Rattle.asm_place.specs.Size.{rounded}
-use Rattle.asm_link.specs.State.{Before, start}
-use Rattle.asm_link.specs.Names.{Seen, seen, state_after}
+use Rattle.asm_line.specs.Size.{rounded}
+use Rattle.asm_link.specs.Definitions.{state_after}
 use Rattle.asm_link.specs.Faults.{kind_at}
 use Rattle.asm_link.specs.Image.{bss_length, image_of}
+use Rattle.asm_link.specs.Source.{SourceLine, source_of}
+use Rattle.asm_link.specs.State.{Before, start}
+use Rattle.asm_link.specs.Visits.{Visit, visits}
 
 -- the fault of a line
-abbrev pub fault_at : List Spot → Seen → Option AsmFault
-fault_at all v = option_map (λ kind. record { file = v.spot.file; line = v.spot.line; kind = kind }) (kind_at all v)
+abbrev pub fault_at : List SourceLine → Visit → Option AsmFault
+fault_at all v = option_map (λ kind. record { file = v.line.file; line = v.line.line; kind = kind }) (kind_at all v)
 
 -- the first fault in the order of lines
-abbrev pub first_fault : List Spot → List Seen → Option AsmFault
+abbrev pub first_fault : List SourceLine → List Visit → Option AsmFault
 first_fault all [] = None
 first_fault all (v ∷ vs) = option_or (fault_at all v) (first_fault all vs)
 
@@ -35,20 +36,20 @@ abbrev pub end_fault : ℕ → Before → Option AsmFault
 end_fault files last = option_map (λ kind. record { file = files; line = 0; kind = kind }) (end_kind last)
 
 -- the first fault of this many files
-abbrev pub fault_in : ℕ → List Spot → Option AsmFault
-fault_in files all = option_or (first_fault all (seen all)) (end_fault files (state_after start all))
+abbrev pub fault_in : ℕ → List SourceLine → Option AsmFault
+fault_in files all = option_or (first_fault all (visits all)) (end_fault files (state_after start all))
 
 abbrev pub unless_fault : Option AsmFault → Qvm → Result Qvm AsmFault
 unless_fault None image = Ok image
 unless_fault (Some fault) image = Err fault
 
 -- what this many files with these lines are linked to
-abbrev pub linked_lines : ℕ → List Spot → Result Qvm AsmFault
+abbrev pub linked_lines : ℕ → List SourceLine → Result Qvm AsmFault
 linked_lines files all = unless_fault (fault_in files all) (image_of all)
 
 -- what the files that have these texts are linked to: an image, or the first fault
 abbrev pub linked : List (List ℕ) → Result Qvm AsmFault
-linked texts = linked_lines (length texts) (spots_of texts)
+linked texts = linked_lines (length texts) (source_of texts)
 
 -- a result gives this answer. Want of memory may stand in its place
 abbrev pub Answers : Result Qvm AsmFault → Result Image AsmFault → Type 0

@@ -1,42 +1,43 @@
 // The faults of all lines.
-ghost use Rattle.std.specs.Prelude.{◌≡◌, ◌<◌, ◌^◌, map, option_map};
+ghost use Rattle.std.specs.Prelude.{◌≡◌, ◌<◌, ◌^◌, option_map};
 ghost use Rattle.asm_link.specs.Link.{end_fault, end_kind, first_fault};
-ghost use Rattle.asm_link.specs.Names.{seen};
-ghost use Rattle.asm_link.specs.Shown.{before_of, fault_of, kind_of, spot_of};
+ghost use Rattle.asm_link.specs.Shown.{before_of, fault_of, kind_of, texts_of};
+ghost use Rattle.asm_link.specs.Source.{source_of};
 ghost use Rattle.asm_link.specs.State.{weight};
+ghost use Rattle.asm_link.specs.Visits.{visits};
 
-use crate::faults::kind_at;
-use crate::kind::{Fault, Kind};
-use crate::state::{STACK, State, advance, start};
-use crate::whole::Whole;
+use crate::faults::fault_at;
+use crate::lent::{LentFault, LentKind};
+use crate::read::read_files;
+use crate::state::{State, advance, start};
+use crate::tables::Tables;
 use asm_place::size::rounded;
-use qv_base::limits::BLOCK_BYTES;
+use qv_base::limits::{BLOCK_BYTES, STACK_BYTES};
 
 /// The first fault of a line.
-pub fn first_fault<'a>(whole: &Whole<'a>) -> Option<Fault<'a>>
-    ensures { option_map fault_of result ≡ first_fault (map spot_of whole.now.spots.now) (seen (map spot_of whole.now.spots.now)) }
+pub fn first_fault<'a>(tables: &Tables<'a>) -> Option<LentFault<'a>>
+    ensures { option_map fault_of result ≡ first_fault (source_of (texts_of tables.now.files.now)) (visits (source_of (texts_of tables.now.files.now))) }
 {
     let mut state = start();
-    for (i, spot) in whole.spots.iter().enumerate() {
-        if let Some(kind) = kind_at(whole, i, &state, spot) {
-            return Some(Fault {
-                file: spot.file,
-                line: spot.line,
-                kind,
-            });
+    let mut reader = read_files(tables.files);
+    let mut at = 0u64;
+    while let Some(line) = reader.next_line() {
+        if let Some(fault) = fault_at(tables, at, &state, &line) {
+            return Some(fault);
         }
-        advance(&mut state, spot);
+        advance(&mut state, &line);
+        at += 1;
     }
     None
 }
 
 /// The fault behind all lines of this many files.
-pub fn end_fault<'a>(files: u32, last: &State<'a>) -> Option<Fault<'a>>
+pub fn end_fault<'a>(files: u32, last: &State<'a>) -> Option<LentFault<'a>>
     requires { weight (before_of last.now) < 2 ^ 124 }
     ensures { option_map fault_of result ≡ end_fault files (before_of last.now) }
 {
     let kind = end_kind(last)?;
-    Some(Fault {
+    Some(LentFault {
         file: files,
         line: 0,
         kind,
@@ -44,16 +45,17 @@ pub fn end_fault<'a>(files: u32, last: &State<'a>) -> Option<Fault<'a>>
 }
 
 // The fault behind all lines.
-fn end_kind<'a>(last: &State<'a>) -> Option<Kind<'a>>
+fn end_kind<'a>(last: &State<'a>) -> Option<LentKind<'a>>
     requires { weight (before_of last.now) < 2 ^ 124 }
     ensures { option_map kind_of result ≡ end_kind (before_of last.now) }
 {
     if last.count == 0 {
-        return Some(Kind::EmptyCode);
+        return Some(LentKind::EmptyCode);
     }
-    let size = rounded(last.data_size) + rounded(last.lit_size) + (rounded(last.bss_size) + STACK);
+    let bss = rounded(last.bss_size) + u128::from(STACK_BYTES);
+    let size = rounded(last.data_size) + rounded(last.lit_size) + bss;
     if size > u128::from(BLOCK_BYTES) {
-        return Some(Kind::DataTooLarge(size));
+        return Some(LentKind::DataTooLarge(size));
     }
     None
 }

@@ -1,30 +1,31 @@
-// The first pass over all lines: sizes and names.
-ghost use Rattle.asm_link.specs.Shown.{spot_of};
-ghost use Rattle.std.specs.Prelude.{◌≡◌, IfOk, IsTrue, map};
-ghost use Rattle.std.specs.List.{list_all};
-ghost use Rattle.asm_link.specs.Spot.{carries};
+// The first reading of all lines: sizes and names.
+ghost use Rattle.std.specs.Prelude.{◌≡◌, ◌<◌, ◌^◌, IfOk, length};
 
-use crate::naming::{add, none};
-use crate::spot::Spot;
+use crate::fault::AsmFile;
+use crate::naming::{no_names, note};
+use crate::read::read_files;
 use crate::state::{advance, start};
-use crate::whole::Whole;
+use crate::tables::Tables;
 use qv_base::NoMemory;
 use std::alloc::Global;
 
-/// All lines with their names and the state behind them. Each operand has to be one that its
-/// instruction carries.
-pub fn gather<'a>(alloc: Global, spots: &'a [Spot<'a>]) -> Result<Whole<'a>, NoMemory>
-    requires { IsTrue (list_all carries (map spot_of spots.now)) }
-    ensures { IfOk result (λ w. w.spots.now ≡ spots.now) }
+/// The names of all lines, and the state behind them.
+pub fn gather(alloc: Global, files: &[AsmFile]) -> Result<Tables<'_>, NoMemory>
+    requires { length files.now < 2 ^ 32 }
+    ensures { IfOk result (λ tables. tables.files.now ≡ files.now) }
 {
-    let mut names = none(alloc);
+    let mut names = no_names(alloc);
     let mut state = start();
-    for (i, spot) in spots.iter().enumerate() {
-        add(&mut names, i, &state, spot, &spots[i + 1..])?;
-        advance(&mut state, spot);
+    let mut reader = read_files(files);
+    let mut at = 0u64;
+    while let Some(line) = reader.next_line() {
+        note(&mut names, at, &state, &line)?;
+        advance(&mut state, &line);
+        // No memory holds 2^64 lines.
+        at = at.checked_add(1).ok_or(NoMemory)?;
     }
-    Ok(Whole {
-        spots,
+    Ok(Tables {
+        files,
         names,
         last: state,
     })

@@ -1,21 +1,24 @@
 //! Links files of assembly into an image.
 #![tactic(auto)]
 
+mod addition;
 mod check;
 mod emit;
 pub mod fault;
 mod faults;
 mod gather;
-mod kind;
-mod labels;
+mod known;
+mod lent;
 pub mod link;
 mod names;
 mod naming;
+mod noted;
 mod parts;
 mod read;
-mod spot;
+mod reader;
+mod source;
 mod state;
+mod tables;
 #[cfg(test)]
 mod tests;
 mod values;
-mod whole;

@@ -1,19 +1,12 @@
-// Names with what is known of them.
-ghost use Rattle.std.specs.Prelude.{◌≡◌, ℕ, ◌<◌, Some, length};
+// Names with what is known of them, while the lines are read.
+ghost use Rattle.std.specs.Prelude.{◌≡◌, ℕ, ◌<◌, ◌≤◌, Some, IsTrue, length, take};
+ghost use Rattle.std.specs.List.{list_all};
 ghost use Rattle.std.specs.FinMap as map;
 ghost use Rattle.asm_place.specs.Symbols.{Key};
+ghost use Rattle.asm_link.specs.Held.{is_settled};
 
-use asm_place::place::Place;
+use crate::noted::Noted;
 use asm_place::symbols::Symbols;
-
-/// What is known of a name.
-#[derive(Clone, Copy)]
-pub struct Known {
-    /// The number of the line that defines it, from 0 among all lines.
-    pub at: usize,
-    /// Where it stands.
-    pub place: Place,
-}
 
 /// Names with what is known of them.
 #[derive(Drop)]
@@ -21,6 +14,10 @@ pub struct Names {
     /// Each name with the number of its definition.
     pub symbols: Symbols,
     /// The definitions in their order.
-    pub definitions: Vec<Known>,
-    ghost numbered: { (key : Key) (n : ℕ) → map.get symbols key ≡ Some n → n < length definitions.items },
+    pub notes: Vec<Noted>,
+    /// The number of the first definition that may wait: those before it are settled.
+    pub first_waiting: usize,
+    ghost numbered: { (key : Key) (n : ℕ) → map.get symbols key ≡ Some n → n < length notes.items },
+    ghost settled: { IsTrue (list_all is_settled (take first_waiting notes.items)) },
+    ghost within: { first_waiting ≤ length notes.items },
 }

@@ -1,63 +1,99 @@
 // Reads the lines of files.
-ghost use Rattle.std.specs.Prelude.{◌≡◌, ◌<◌, ◌^◌, [], ◌++◌, IfOk, OnOk, IsTrue, length, map};
-ghost use Rattle.std.specs.List.{list_all};
-ghost use Rattle.asm_line.specs.Text.{lines_of};
-ghost use Rattle.asm_link.specs.Shown.{entry_of, spot_of, texts_of};
-ghost use Rattle.asm_link.specs.Spot.{carries, carries_entry, entry_of_line, file_spots, spots_of};
+ghost use Rattle.std.specs.Prelude.{◌≡◌, ◌<◌, ◌^◌, ◌∷◌, [], IfSome, IsTrue, MatchOption, length};
+ghost use Rattle.asm_link.specs.Reader.{left};
+ghost use Rattle.asm_link.specs.Shown.{entry_of, line_of, texts_of};
+ghost use Rattle.asm_link.specs.Source.{carries, carries_entry, entry_of_text, source_from, source_of};
 
 use crate::fault::AsmFile;
-use crate::spot::{Entry, Spot};
+use crate::reader::{Position, Reader};
+use crate::source::{Entry, SourceLine};
 use asm_line::read::read_line;
 use asm_line::scan::cut_line;
-use qv_base::NoMemory;
-use std::alloc::Global;
 
-/// The lines of all files.
-pub fn read_files<'a>(alloc: Global, files: &'a [AsmFile]) -> Result<Vec<Spot<'a>>, NoMemory>
+/// A reader before the first line of these files.
+pub fn read_files(files: &[AsmFile]) -> Reader<'_>
     requires { length files.now < 2 ^ 32 }
-    ensures lines { IfOk result (λ spots. map spot_of spots.items ≡ spots_of (texts_of files.now)) }
-    ensures carried { IfOk result (λ spots. IsTrue (list_all carries (map spot_of spots.items))) }
+    ensures { left result ≡ source_of (texts_of files.now) }
 {
-    let mut spots = Vec::new(alloc);
-    for (i, file) in files.iter().enumerate() {
-        read_file(&mut spots, i as u32, &file.text)?;
+    match files {
+        [first, rest @ ..] => Reader {
+            files: rest,
+            file: 0,
+            line: 1,
+            position: Position::Text(&first.text),
+        },
+        [] => Reader {
+            files,
+            file: 0,
+            line: 1,
+            position: Position::Done,
+        },
     }
-    Ok(spots)
 }
 
-// Appends the lines of the file that has this number, and its end.
-fn read_file<'a>(spots: &mut Vec<Spot<'a>>, file: u32, text: &'a [u8]) -> Result<(), NoMemory>
-    ensures lines { OnOk result (map spot_of spots.new.items ≡ map spot_of spots.old.items ++ file_spots file 1 (lines_of text.now) []) }
-    ensures carried { OnOk result (list_all carries (map spot_of spots.new.items) ≡ list_all carries (map spot_of spots.old.items)) }
-{
-    let mut rest = text;
-    let mut line = 1u32;
-    loop {
-        let (words, behind) = cut_line(rest);
-        spots.push(Spot {
-            file,
-            line,
-            entry: read_entry(words),
-        })?;
-        line = line.saturating_add(1);
-        let Some(behind) = behind else {
-            spots.push(Spot {
-                file,
-                line,
-                entry: Entry::FileEnd,
-            })?;
-            return Ok(());
+impl<'a> Reader<'a> {
+    /// Reads the next line, or the end of a file. None behind the last file.
+    pub fn next_line(&mut self) -> Option<SourceLine<'a>>
+        ensures next { MatchOption result (left self.old ≡ []) (λ x. left self.old ≡ line_of x ∷ left self.new) }
+        ensures carried { IfSome result (λ x. IsTrue (carries (line_of x))) }
+    {
+        match self.position {
+            Position::Text(text) => Some(self.read_text(text)),
+            Position::End => Some(self.end_file()),
+            Position::Done => None,
+        }
+    }
+
+    // Reads the first line of what is left of the current file's text.
+    fn read_text(&mut self, text: &'a [u8]) -> SourceLine<'a>
+        requires { self.old.position ≡ Position.Text text }
+        ensures next { left self.old ≡ line_of result ∷ left self.new }
+        ensures carried { IsTrue (carries (line_of result)) }
+    {
+        let (first, behind) = cut_line(text);
+        let line = SourceLine {
+            file: self.file,
+            line: self.line,
+            entry: read_entry(first),
         };
-        rest = behind;
+        self.line = self.line.saturating_add(1);
+        self.position = match behind {
+            Some(rest) => Position::Text(rest),
+            None => Position::End,
+        };
+        line
+    }
+
+    // Goes on to the next file.
+    fn end_file(&mut self) -> SourceLine<'a>
+        requires { self.old.position ≡ Position.End }
+        ensures next { left self.old ≡ line_of result ∷ left self.new }
+        ensures carried { IsTrue (carries (line_of result)) }
+    {
+        let end = SourceLine {
+            file: self.file,
+            line: self.line,
+            entry: Entry::FileEnd,
+        };
+        match self.files {
+            [next, rest @ ..] => {
+                self.files = rest;
+                self.file += 1;
+                self.line = 1;
+                self.position = Position::Text(&next.text);
+            }
+            [] => self.position = Position::Done,
+        }
+        end
     }
 }
 
 // What stands on a line.
-fn read_entry(line: &[u8]) -> Entry<'_>
-    ensures is { entry_of result ≡ entry_of_line line.now }
+fn read_entry(text: &[u8]) -> Entry<'_>
+    ensures is { entry_of result ≡ entry_of_text text.now }
     ensures carried { IsTrue (carries_entry (entry_of result)) }
 {
-    match read_line(line) {
+    match read_line(text) {
         Ok(line) => Entry::Read(line),
         Err(fault) => Entry::Unread(fault),
     }

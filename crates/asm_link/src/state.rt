@@ -1,25 +1,17 @@
 // What the lines before a place come to.
-ghost use Rattle.std.specs.Prelude.{◌≡◌, ◌+◌, ◌<◌, ◌≤◌, ◌^◌};
-ghost use Rattle.asm_line.specs.Shown.{row_of};
-ghost use Rattle.asm_link.specs.Shown.{before_of, spot_of};
-ghost use Rattle.asm_link.specs.State.{start, step, step_line, weight, grown, counted, settled, size_in};
+ghost use Rattle.std.specs.Prelude.{◌≡◌, ◌+◌, ◌<◌, ◌≤◌, ◌^◌, ℕ, Option, length, option_map};
+ghost use Rattle.asm_line.specs.Shown.{bytes_of, row_of};
+ghost use Rattle.asm_line.specs.Stands.{code_of, code_size};
+ghost use Rattle.asm_line.specs.declared.frame.FrameSizes.{FrameSizes};
+ghost use Rattle.asm_link.specs.Shown.{addition_shown, before_of, line_of};
+ghost use Rattle.asm_link.specs.State.{added_to, frame_weight, next_arg_words, next_last, next_procedure, next_segment, next_waits, row_addition, size_in, start, step, step_row, weight};
 
-use crate::spot::{Entry, Spot};
+use crate::addition::{Addition, added_by};
+use crate::source::{Entry, SourceLine};
+use asm_line::frame::FrameSizes;
 use asm_line::line::{AsmSegment, Line};
-use asm_place::size::{rounded, zeros_to};
+use asm_place::size::rounded;
 use qv_ops::op::width;
-
-/// Bytes of the stack behind the other zero bytes.
-pub const STACK: u128 = 65_536;
-
-/// The sizes of an open procedure in bytes, each rounded up to 4.
-#[derive(Clone, Copy, Debug, PartialEq, Eq)]
-pub struct Frame {
-    /// Local variables.
-    pub locals: u128,
-    /// Arguments that it passes.
-    pub args: u128,
-}
 
 /// What the lines before a place come to.
 #[derive(Clone, Copy)]
@@ -27,7 +19,7 @@ pub struct State<'a> {
     /// The current segment.
     pub segment: AsmSegment,
     /// The open procedure.
-    pub frame: Option<Frame>,
+    pub procedure: Option<FrameSizes>,
     /// Arguments since the last call, procedure or start of a file.
     pub arg_words: u128,
     /// The last label outside code since a segment's word or the file's start.
@@ -52,7 +44,7 @@ pub fn start<'a>() -> State<'a>
 {
     State {
         segment: AsmSegment::Code,
-        frame: None,
+        procedure: None,
         arg_words: 0,
         last: None,
         waits: false,
@@ -76,131 +68,155 @@ pub fn size_in(state: &State<'_>, segment: AsmSegment) -> u128
     }
 }
 
-// Bytes more in a segment.
-fn grown<'a>(state: &State<'a>, segment: AsmSegment, bytes: u128) -> State<'a>
-    requires room { weight (before_of state.now) < 2 ^ 127 }
-    requires few { bytes < 2 ^ 32 }
-    ensures is { before_of result ≡ grown segment bytes (before_of state.now) }
-    ensures bound { weight (before_of result) ≤ weight (before_of state.now) + 2 ^ 32 }
+// The segment behind a line.
+fn next_segment(current: AsmSegment, line: &Line<'_>) -> AsmSegment
+    ensures { result ≡ next_segment current (row_of line.now) }
 {
-    match segment {
-        AsmSegment::Code => *state,
-        AsmSegment::Data => State {
-            data_size: state.data_size + bytes,
-            ..*state
-        },
-        AsmSegment::Lit => State {
-            lit_size: state.lit_size + bytes,
-            ..*state
-        },
-        AsmSegment::Bss => State {
-            bss_size: state.bss_size + bytes,
-            ..*state
-        },
+    match *line {
+        Line::Into(segment) => segment,
+        Line::Word(_) => AsmSegment::Data,
+        Line::LitByte(_) => AsmSegment::Lit,
+        _ => current,
     }
 }
 
-// Instructions more, and their bytes.
-fn counted<'a>(state: &State<'a>, instrs: u128, bytes: u128) -> State<'a>
-    requires room { weight (before_of state.now) < 2 ^ 127 }
-    requires few { instrs < 8 }
-    requires short { bytes < 8 }
-    ensures is { before_of result ≡ counted instrs bytes (before_of state.now) }
-    ensures bound { weight (before_of result) ≤ weight (before_of state.now) + 16 }
+// The open procedure behind a line.
+fn next_procedure(procedure: Option<FrameSizes>, line: &Line<'_>) -> Option<FrameSizes>
+    ensures is { result ≡ next_procedure procedure (row_of line.now) }
+    ensures bound { frame_weight result ≤ frame_weight procedure + 2 ^ 33 + 8 }
 {
-    State {
-        count: state.count + instrs,
-        code_bytes: state.code_bytes + bytes,
-        ..*state
+    match *line {
+        Line::Proc { locals, args, .. } => Some(FrameSizes {
+            locals: rounded(u128::from(locals)),
+            args: rounded(u128::from(args)),
+        }),
+        Line::EndProc => None,
+        _ => procedure,
     }
 }
 
-// The segment is this one, and no label waits.
-fn settled<'a>(state: &State<'a>, segment: AsmSegment) -> State<'a>
-    ensures is { before_of result ≡ settled segment (before_of state.now) }
-    ensures bound { weight (before_of result) ≡ weight (before_of state.now) }
+// The arguments since the last call, behind a line.
+fn next_arg_words(arg_words: u128, line: &Line<'_>) -> u128
+    requires { arg_words < 2 ^ 127 }
+    ensures is { result ≡ next_arg_words arg_words (row_of line.now) }
+    ensures bound { result ≤ arg_words + 1 }
 {
-    State {
-        segment,
-        waits: false,
-        ..*state
+    match line {
+        Line::Proc { .. } | Line::Call => 0,
+        Line::Arg => arg_words + 1,
+        _ => arg_words,
+    }
+}
+
+// The last label outside code, behind a line.
+fn next_last<'a>(
+    current: AsmSegment,
+    last: Option<&'a [u8]>,
+    line: &Line<'a>,
+) -> Option<&'a [u8]>
+    ensures { option_map bytes_of result ≡ next_last current (option_map bytes_of last.entry) (row_of line.now) }
+{
+    match *line {
+        Line::Into(_) => None,
+        Line::Label(name) => match current {
+            AsmSegment::Code => last,
+            _ => Some(name),
+        },
+        _ => last,
+    }
+}
+
+// Whether a label waits behind a line.
+fn next_waits(current: AsmSegment, waits: bool, line: &Line<'_>) -> bool
+    ensures { result ≡ next_waits current waits (row_of line.now) }
+{
+    match line {
+        Line::Into(_) | Line::Word(_) | Line::LitByte(_) | Line::Skip(_) | Line::Align(_) => false,
+        Line::Label(_) => match current {
+            AsmSegment::Code => waits,
+            _ => true,
+        },
+        _ => waits,
+    }
+}
+
+// How many instructions a line stands for.
+fn code_count(line: &Line<'_>) -> u128
+    ensures is { (procedure : Option FrameSizes) (arg_words : ℕ) → length (code_of procedure arg_words (row_of line.now)) ≡ result }
+    ensures bound { result ≤ 2 }
+{
+    match line {
+        Line::EndProc => 2,
+        Line::Proc { .. }
+        | Line::One { .. }
+        | Line::Call
+        | Line::Arg
+        | Line::Ret
+        | Line::LocalAt(_)
+        | Line::ParamAt(_) => 1,
+        _ => 0,
+    }
+}
+
+// How many bytes they take.
+fn code_size(line: &Line<'_>) -> u128
+    ensures is { (procedure : Option FrameSizes) (arg_words : ℕ) → code_size (code_of procedure arg_words (row_of line.now)) ≡ result }
+    ensures bound { result ≤ 6 }
+{
+    match line {
+        Line::EndProc => 6,
+        Line::Proc { .. } | Line::Ret | Line::LocalAt(_) | Line::ParamAt(_) => 5,
+        Line::One { op, .. } => 1 + u128::from(width(*op)),
+        Line::Call => 1,
+        Line::Arg => 2,
+        _ => 0,
+    }
+}
+
+// The bytes that are added to a segment.
+fn added_to(segment: AsmSegment, added: Option<(AsmSegment, Addition<'_>)>) -> u128
+    ensures is { result ≡ added_to segment (option_map addition_shown added.entry) }
+    ensures bound { result < 2 ^ 32 }
+{
+    match added {
+        Some((into, addition)) if into == segment => u128::from(addition.size()),
+        _ => 0,
     }
 }
 
 // The state behind a line that can be read.
 fn step_line<'a>(s: &State<'a>, line: &Line<'a>) -> State<'a>
     requires { weight (before_of s.now) < 2 ^ 126 }
-    ensures is { before_of result ≡ step_line (row_of line.now) (before_of s.now) }
-    ensures bound { weight (before_of result) ≤ weight (before_of s.now) + 2 ^ 33 + 32 }
+    ensures is { before_of result ≡ step_row (row_of line.now) (before_of s.now) }
+    ensures bound { weight (before_of result) ≤ weight (before_of s.now) + 2 ^ 35 }
 {
-    match *line {
-        Line::Nothing | Line::Equ { .. } => *s,
-        Line::Proc { locals, args, .. } => {
-            let frame = Frame {
-                locals: rounded(u128::from(locals)),
-                args: rounded(u128::from(args)),
-            };
-            let opened = State {
-                frame: Some(frame),
-                arg_words: 0,
-                ..*s
-            };
-            counted(&opened, 1, 5)
-        }
-        Line::EndProc => {
-            let closed = State { frame: None, ..*s };
-            counted(&closed, 2, 6)
-        }
-        Line::One { op, .. } => counted(s, 1, 1 + u128::from(width(op))),
-        Line::Call => {
-            let called = State { arg_words: 0, ..*s };
-            counted(&called, 1, 1)
-        }
-        Line::Arg => {
-            let given = counted(s, 1, 2);
-            State {
-                arg_words: given.arg_words + 1,
-                ..given
-            }
-        }
-        Line::Ret | Line::LocalAt(_) | Line::ParamAt(_) => counted(s, 1, 5),
-        Line::Into(segment) => {
-            let other = settled(s, segment);
-            State {
-                last: None,
-                ..other
-            }
-        }
-        Line::Label(name) => match s.segment {
-            AsmSegment::Code => *s,
-            _ => State {
-                last: Some(name),
-                waits: true,
-                ..*s
-            },
-        },
-        Line::Word(_) => grown(&settled(s, AsmSegment::Data), AsmSegment::Data, 4),
-        Line::LitByte(_) => grown(&settled(s, AsmSegment::Lit), AsmSegment::Lit, 1),
-        Line::Skip(n) => grown(&settled(s, s.segment), s.segment, u128::from(n)),
-        Line::Align(n) => {
-            let bytes = zeros_to(n, size_in(s, s.segment));
-            grown(&settled(s, s.segment), s.segment, bytes)
-        }
+    let added = added_by(s, line);
+    State {
+        segment: next_segment(s.segment, line),
+        procedure: next_procedure(s.procedure, line),
+        arg_words: next_arg_words(s.arg_words, line),
+        last: next_last(s.segment, s.last, line),
+        waits: next_waits(s.segment, s.waits, line),
+        count: s.count + code_count(line),
+        code_bytes: s.code_bytes + code_size(line),
+        data_size: s.data_size + added_to(AsmSegment::Data, added),
+        lit_size: s.lit_size + added_to(AsmSegment::Lit, added),
+        bss_size: s.bss_size + added_to(AsmSegment::Bss, added),
     }
 }
 
 /// The state behind an entry.
-pub fn step<'a>(s: &State<'a>, spot: &Spot<'a>) -> State<'a>
+pub fn step<'a>(s: &State<'a>, line: &SourceLine<'a>) -> State<'a>
     requires { weight (before_of s.now) < 2 ^ 126 }
-    ensures is { before_of result ≡ step (before_of s.now) (spot_of spot.now) }
-    ensures bound { weight (before_of result) ≤ weight (before_of s.now) + 2 ^ 34 }
+    ensures is { before_of result ≡ step (before_of s.now) (line_of line.now) }
+    ensures bound { weight (before_of result) ≤ weight (before_of s.now) + 2 ^ 35 }
 {
-    match &spot.entry {
+    match &line.entry {
         Entry::Read(line) => step_line(s, line),
         Entry::Unread(_) => *s,
         Entry::FileEnd => State {
             segment: AsmSegment::Code,
-            frame: None,
+            procedure: None,
             arg_words: 0,
             last: None,
             waits: false,
@@ -210,10 +226,10 @@ pub fn step<'a>(s: &State<'a>, spot: &Spot<'a>) -> State<'a>
 }
 
 /// Goes on behind an entry.
-pub fn advance<'a>(s: &mut State<'a>, spot: &Spot<'a>)
+pub fn advance<'a>(s: &mut State<'a>, line: &SourceLine<'a>)
     requires { weight (before_of s.old) < 2 ^ 126 }
-    ensures is { (before_of s.new) ≡ step (before_of s.old) (spot_of spot.now) }
-    ensures bound { weight (before_of s.new) ≤ weight (before_of s.old) + 2 ^ 34 }
+    ensures is { (before_of s.new) ≡ step (before_of s.old) (line_of line.now) }
+    ensures bound { weight (before_of s.new) ≤ weight (before_of s.old) + 2 ^ 35 }
 {
-    *s = step(s, spot);
+    *s = step(s, line);
 }

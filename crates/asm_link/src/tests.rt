@@ -1,6 +1,6 @@
 // Texts that are linked, and texts that are refused.
 use crate::fault::{AsmFault, AsmFile, AsmKind};
-use crate::kind::Kind;
+use crate::lent::LentKind;
 use crate::link::link;
 use asm_line::line::LineFault;
 use qv_base::NoMemory;
@@ -123,43 +123,43 @@ fn passes_arguments(rt: HostRuntime) -> Result<(), Fail> {
 }
 
 // Files that aren't linked, and the file, the line and the kind of their first fault.
-const REFUSALS: [(&[&[u8]], u32, u32, Kind<'static>); 11] = [
+const REFUSALS: [(&[&[u8]], u32, u32, LentKind<'static>); 11] = [
     (
         &[b"pop", b"\npop\nfoo"],
         1,
         3,
-        Kind::Line(LineFault::UnknownWord),
+        LentKind::Line(LineFault::UnknownWord),
     ),
-    (&[b"LABELV a", b"equ a 1"], 1, 1, Kind::Redefined(b"a")),
+    (&[b"LABELV a", b"equ a 1"], 1, 1, LentKind::Redefined(b"a")),
     (
         &[b"proc p 0 0\nproc p 32760 0"],
         0,
         2,
-        Kind::Redefined(b"p"),
+        LentKind::Redefined(b"p"),
     ),
     (
         &[b"lit\nLABELV x\nbyte 1 1\naddress y"],
         0,
         4,
-        Kind::MixedSegments(b"x"),
+        LentKind::MixedSegments(b"x"),
     ),
-    (&[b"proc p 0 0", b"endproc p 0 0"], 1, 1, Kind::OutsideProc),
+    (&[b"proc p 0 0", b"endproc p 0 0"], 1, 1, LentKind::OutsideProc),
     (
         &[b"ADDRGP4 $1", b"LABELV $1"],
         0,
         1,
-        Kind::UndefinedName(b"$1"),
+        LentKind::UndefinedName(b"$1"),
     ),
-    (&[b"LABELV x\nEQI4 x\nEQI4 x+2"], 0, 3, Kind::BranchFar),
-    (&[], 0, 0, Kind::EmptyCode),
-    (&[b"data\nbyte 4 1"], 1, 0, Kind::EmptyCode),
+    (&[b"LABELV x\nEQI4 x\nEQI4 x+2"], 0, 3, LentKind::BranchFar),
+    (&[], 0, 0, LentKind::EmptyCode),
+    (&[b"data\nbyte 4 1"], 1, 0, LentKind::EmptyCode),
     (
         &[b"pop\ndata\nskip 4294967295\nlit\nskip 4294967295"],
         1,
         0,
-        Kind::DataTooLarge(8_590_000_132),
+        LentKind::DataTooLarge(8_590_000_132),
     ),
-    (&[b"bss\nskip 67043325\npop\nRETV"], 0, 4, Kind::OutsideProc),
+    (&[b"bss\nskip 67043325\npop\nRETV"], 0, 4, LentKind::OutsideProc),
 ];
 
 #[test]
@@ -172,23 +172,23 @@ fn refuses(rt: HostRuntime) {
     }
 }
 
-fn is_refused(alloc: Global, texts: &[&[u8]], file: u32, line: u32, kind: &Kind<'_>) -> bool {
+fn is_refused(alloc: Global, texts: &[&[u8]], file: u32, line: u32, kind: &LentKind<'_>) -> bool {
     match link_texts(alloc, texts) {
         Ok(_) => false,
         Err(fault) => fault.file == file && fault.line == line && is_kind(&fault.kind, kind),
     }
 }
 
-fn is_kind(kind: &AsmKind, expected: &Kind<'_>) -> bool {
+fn is_kind(kind: &AsmKind, expected: &LentKind<'_>) -> bool {
     match (kind, expected) {
-        (AsmKind::Line(a), Kind::Line(b)) => a == b,
-        (AsmKind::Redefined(a), Kind::Redefined(b))
-        | (AsmKind::MixedSegments(a), Kind::MixedSegments(b))
-        | (AsmKind::UndefinedName(a), Kind::UndefinedName(b)) => a.bytes() == *b,
-        (AsmKind::DataTooLarge(a), Kind::DataTooLarge(b)) => a == b,
-        (AsmKind::OutsideProc, Kind::OutsideProc)
-        | (AsmKind::BranchFar, Kind::BranchFar)
-        | (AsmKind::EmptyCode, Kind::EmptyCode) => true,
+        (AsmKind::Line(a), LentKind::Line(b)) => a == b,
+        (AsmKind::Redefined(a), LentKind::Redefined(b))
+        | (AsmKind::MixedSegments(a), LentKind::MixedSegments(b))
+        | (AsmKind::UndefinedName(a), LentKind::UndefinedName(b)) => a.bytes() == *b,
+        (AsmKind::DataTooLarge(a), LentKind::DataTooLarge(b)) => a == b,
+        (AsmKind::OutsideProc, LentKind::OutsideProc)
+        | (AsmKind::BranchFar, LentKind::BranchFar)
+        | (AsmKind::EmptyCode, LentKind::EmptyCode) => true,
         _ => false,
     }
 }

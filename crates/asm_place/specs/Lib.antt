@@ -1,2 +1,1 @@
-pub mod Size
 pub mod Symbols

@@ -1,6 +1,6 @@
 //! Sizes rounded up.
 ghost use Rattle.std.specs.Prelude.{◌≡◌, ◌<◌, ◌^◌};
-ghost use Rattle.asm_place.specs.Size.{rounded, zeros_to};
+ghost use Rattle.asm_line.specs.Size.{rounded, zeros_to};
 
 /// A size rounded up to a multiple of 4.
 pub fn rounded(size: u128) -> u128

@@ -9,7 +9,7 @@ use Rattle.qv_base.specs.Place.{capped}
 use Rattle.qv_ops.specs.declared.op.Op.TheVariants.{Const}
 use Rattle.asm_line.specs.Row.{One}
 use Rattle.asm_line.specs.Operand.{pieces}
-use Rattle.asm_line.specs.Read.{read_row, with_ok, good}
+use Rattle.asm_line.specs.Read.{read_row, with_ok, checked}
 use Rattle.asm_line.specs.Text.{lines_of, words_of}
 use Rattle.asm_line.proofs.Numbers.{decimal_word, decimal_no_line_feed, decimal_some, expression-decimal}
 use Rattle.asm_line.proofs.Text.{lines_of-nil, lines_of-line, words_of-nil, words_of-last, words_of-word-blank}
@@ -67,7 +67,7 @@ row_read Open h = refl
 row_read Parameter h = refl
 row_read Load h = refl
 row_read (Constant n) h =
-    ap read_row (constant_words n (small n h)) ∙ ap (λ o. with_ok (λ e. One Const e) (good o [])) (expression-decimal n (small n h))
+    ap read_row (constant_words n (small n h)) ∙ ap (λ o. with_ok (λ e. One Const e) (checked o [])) (expression-decimal n (small n h))
 row_read Add h = refl
 row_read Subtract h = refl
 row_read Return h = refl

@@ -17,7 +17,7 @@ use Rattle.qv_ops.specs.Table.{name_of_op, width_of_op, op_with_name}
 use Rattle.asm_line.specs.declared.line.AsmSegment.TheVariants.{Code, Data, Lit, Bss}
 use Rattle.asm_line.specs.Row.{Row, constant, Nothing, One, Into, LitByte, Skip}
 use Rattle.asm_line.specs.Operand.{number_of}
-use Rattle.asm_line.specs.Read.{read_row, raw_as, with_ok, with_number, number_that, good, alone, ended, bytes_row}
+use Rattle.asm_line.specs.Read.{read_row, raw_as, with_ok, with_number, number_that, checked, sole_operand, end_of_line, bytes_row}
 use Rattle.asm_line.specs.Text.{lines_of, words_of, is_word_byte}
 use Rattle.asm_line.proofs.Text.{lines_of-nil, lines_of-line, words_of-nil, words_of-last, words_of-word-blank}
 use Rattle.asm_link.specs.Spot.{Read, FileEnd, entry_of_row, entry_of_line, file_spots}
@@ -98,7 +98,7 @@ word_read v h =
     words_of-word-blank (codes "byte") 32 (codes "4 " ++ decimal v) (omega arith) refl refl
     ∙ ap (λ ws. codes "byte" ∷ ws) (words_of-word-blank (codes "4") 32 (decimal v) (omega arith) refl refl)
     ∙ ap (λ ws. codes "byte" ∷ codes "4" ∷ ws) (last_word (decimal v) v w) in
-    record { one_line = w.one_line; entry = ap (λ ws. entry_of_row (read_row ws)) cut ∙ ap (λ o. entry_of_row (good (bytes_row (Some 4) o) [])) w.number }
+    record { one_line = w.one_line; entry = ap (λ ws. entry_of_row (read_row ws)) cut ∙ ap (λ o. entry_of_row (checked (bytes_row (Some 4) o) [])) w.number }
 
 pub byte_read : (v : ℕ) → nat_lt v 256 ≡ true → Reads (byte_line v) (LitByte v)
 byte_read v h =
@@ -108,14 +108,14 @@ byte_read v h =
     words_of-word-blank (codes "byte") 32 (codes "1 " ++ decimal v) (omega arith) refl refl
     ∙ ap (λ ws. codes "byte" ∷ ws) (words_of-word-blank (codes "1") 32 (decimal v) (omega arith) refl refl)
     ∙ ap (λ ws. codes "byte" ∷ codes "1" ∷ ws) (last_word (decimal v) v w) in
-    record { one_line = w.one_line; entry = ap (λ ws. entry_of_row (read_row ws)) cut ∙ ap (λ o. entry_of_row (good (bytes_row (Some 1) o) [])) w.number ∙ ap (λ b. Read (LitByte b)) (mod-eq_of_lt lt) }
+    record { one_line = w.one_line; entry = ap (λ ws. entry_of_row (read_row ws)) cut ∙ ap (λ o. entry_of_row (checked (bytes_row (Some 1) o) [])) w.number ∙ ap (λ b. Read (LitByte b)) (mod-eq_of_lt lt) }
 
 pub skip_read : (n : ℕ) → n < 2 ^ 32 → Reads (codes "skip " ++ decimal n) (Skip n)
 skip_read n lt =
     let w = decimal_writes n lt in
     let cut : words_of (codes "skip " ++ decimal n) ≡ codes "skip" ∷ decimal n ∷ [] =
     words_of-word-blank (codes "skip") 32 (decimal n) (omega arith) refl refl ∙ ap (λ ws. codes "skip" ∷ ws) (last_word (decimal n) n w) in
-    record { one_line = w.one_line; entry = ap (λ ws. entry_of_row (read_row ws)) cut ∙ ap (λ o. entry_of_row (with_ok (λ m. Skip m) (good o []))) w.number }
+    record { one_line = w.one_line; entry = ap (λ ws. entry_of_row (read_row ws)) cut ∙ ap (λ o. entry_of_row (with_ok (λ m. Skip m) (checked o []))) w.number }
 
 -- instructions
 
@@ -160,10 +160,10 @@ operand_one_line zero v h = refl
 operand_one_line (suc zero) v h = (decimal_writes v (grind (arith, nat_tests))).one_line
 operand_one_line (suc (suc width)) v h = (signed_writes v (grind (arith, nat_tests))).one_line
 
-number_passes : (op : Op) (test : ℕ → Bool) (text : List ℕ) (v : ℕ) → test v ≡ true → number_of text ≡ Some v → with_ok (λ n. One op (constant n)) (good (number_that test text) []) ≡ Ok (One op (constant v))
+number_passes : (op : Op) (test : ℕ → Bool) (text : List ℕ) (v : ℕ) → test v ≡ true → number_of text ≡ Some v → with_ok (λ n. One op (constant n)) (checked (number_that test text) []) ≡ Ok (One op (constant v))
 number_passes op test text v h e =
-    ap (λ o. with_ok (λ n. One op (constant n)) (good (option_and_then (λ n. if test n then Some n else None) o) [])) e
-    ∙ ap (λ t. with_ok (λ n. One op (constant n)) (good (if t then Some v else None) [])) h
+    ap (λ o. with_ok (λ n. One op (constant n)) (checked (option_and_then (λ n. if test n then Some n else None) o) [])) e
+    ∙ ap (λ t. with_ok (λ n. One op (constant n)) (checked (if t then Some v else None) [])) h
 
 not_none : (width : ℕ) → (suc (suc width) == 0) ≡ false
 not_none width = grind (arith, nat_tests)
@@ -172,7 +172,7 @@ operand_read : (op : Op) (width v : ℕ) → fits_width width v ≡ true → wit
 operand_read op zero v h = let none : 0 ≡ v = grind (arith, nat_tests) in ap (λ n. Ok (One op (constant n))) none
 operand_read op (suc zero) v h = number_passes op (fits_width 1) (decimal v) v h (decimal_writes v (grind (arith, nat_tests))).number
 operand_read op (suc (suc width)) v h =
-    ap (λ t. if t then ended (One op (constant 0)) (operand_words (suc (suc width)) v) else with_ok (λ n. One op (constant n)) (alone (number_that (fits_width (suc (suc width)))) (operand_words (suc (suc width)) v))) (not_none width)
+    ap (λ t. if t then end_of_line (One op (constant 0)) (operand_words (suc (suc width)) v) else with_ok (λ n. One op (constant n)) (sole_operand (number_that (fits_width (suc (suc width)))) (operand_words (suc (suc width)) v))) (not_none width)
     ∙ number_passes op (fits_width (suc (suc width))) (signed_decimal (cast_signed w32 v)) v h (signed_writes v (grind (arith, nat_tests))).number
 
 pub instr_read : (i : Instr) → is_encodable i ≡ true → Reads (instr_line i) (instr_row i)

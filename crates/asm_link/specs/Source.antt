@@ -12,7 +12,7 @@ pub data Entry : Type 0 where
   Unread : LineFault → Entry
   FileEnd : Entry
 
-pub record Spot : Type 0 where
+pub record SourceLine : Type 0 where
   -- the file's number, from 0
   pub file : ℕ
   -- the line's number, from 1
@@ -23,26 +23,26 @@ abbrev pub entry_of_row : Result Row LineFault → Entry
 entry_of_row (Ok row) = Read row
 entry_of_row (Err fault) = Unread fault
 
-abbrev pub entry_of_line : List ℕ → Entry
-entry_of_line line = entry_of_row (read_row (words_of line))
+abbrev pub entry_of_text : List ℕ → Entry
+entry_of_text text = entry_of_row (read_row (words_of text))
 
 -- the lines of a file from this number on, its end, and then the rest
-abbrev pub file_spots : ℕ → ℕ → List (List ℕ) → List Spot → List Spot
-file_spots file number [] rest = record { file = file; line = number; entry = FileEnd } ∷ rest
-file_spots file number (line ∷ lines) rest = record { file = file; line = number; entry = entry_of_line line } ∷ file_spots file (capped (number + 1)) lines rest
+abbrev pub file_source : ℕ → ℕ → List (List ℕ) → List SourceLine → List SourceLine
+file_source file number [] rest = record { file = file; line = number; entry = FileEnd } ∷ rest
+file_source file number (line ∷ lines) rest = record { file = file; line = number; entry = entry_of_text line } ∷ file_source file (capped (number + 1)) lines rest
 
 -- the files that have these texts, from this number on
-abbrev pub spots_from : ℕ → List (List ℕ) → List Spot
-spots_from file [] = []
-spots_from file (text ∷ texts) = file_spots file 1 (lines_of text) (spots_from (file + 1) texts)
+abbrev pub source_from : ℕ → List (List ℕ) → List SourceLine
+source_from file [] = []
+source_from file (text ∷ texts) = file_source file 1 (lines_of text) (source_from (file + 1) texts)
 
-abbrev pub spots_of : List (List ℕ) → List Spot
-spots_of texts = spots_from 0 texts
+abbrev pub source_of : List (List ℕ) → List SourceLine
+source_of texts = source_from 0 texts
 
 -- the operand of a line that can be read is one that its instruction carries
 abbrev pub carries_entry : Entry → Bool
 carries_entry (Read row) = is_carried row
 carries_entry entry = true
 
-abbrev pub carries : Spot → Bool
-carries spot = carries_entry spot.entry
+abbrev pub carries : SourceLine → Bool
+carries x = carries_entry x.entry

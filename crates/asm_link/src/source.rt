@@ -14,10 +14,10 @@ pub enum Entry<'a> {
 
 /// An entry and its place.
 #[derive(Clone, Copy)]
-pub struct Spot<'a> {
+pub struct SourceLine<'a> {
     /// The file's number, from 0.
     pub file: u32,
-    /// The line's number, from 1.
+    /// The line's number, from 1. A number that would pass 2^32 - 1 stays there.
     pub line: u32,
     /// What stands there.
     pub entry: Entry<'a>,
