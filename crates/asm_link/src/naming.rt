@@ -97,7 +97,9 @@ fn settles(current: AsmSegment, entry: &Entry<'_>) -> Option<AsmSegment>
     match entry {
         Entry::Read(Line::Word(_)) => Some(AsmSegment::Data),
         Entry::Read(Line::LitByte(_)) => Some(AsmSegment::Lit),
-        Entry::Read(Line::Skip(_) | Line::Align(_) | Line::Into(_)) | Entry::FileEnd => Some(current),
+        Entry::Read(Line::Skip(_) | Line::Align(_) | Line::Into(_)) | Entry::FileEnd => Some(
+            current,
+        ),
         _ => None,
     }
 }
@@ -119,7 +121,9 @@ fn held(entry: &Entry<'_>, s: &State<'_>) -> Held
     ensures { (behind : List LineShown) → held_at (end_of (settled_in s.now.segment behind) (before_of s.now)) result ≡ entry_address (entry_of entry.now) (before_of s.now) behind }
 {
     match entry {
-        Entry::Read(Line::Equ { value, .. }) => Held::Settled(Address::Absolute(u128::from(*value))),
+        Entry::Read(Line::Equ { value, .. }) => Held::Settled(Address::Absolute(u128::from(
+            *value,
+        ))),
         Entry::Read(Line::Label(_)) => label_held(s),
         _ => Held::Settled(Address::Absolute(s.count)),
     }
