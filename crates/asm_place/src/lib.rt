@@ -1,6 +1,6 @@
-//! Places in segments, sizes, and names with what they stand for.
+//! Addresses in segments, sizes, and names with what they stand for.
 #![tactic(auto)]
 
-pub mod place;
+pub mod address;
 pub mod size;
 pub mod symbols;
