@@ -1,20 +1,17 @@
 //! The command of options and the names behind them.
 ghost use Rattle.std.specs.Prelude.{◌≡◌, ◌∷◌, ◌++◌, [], IfOk, IfSome, length, map, option_map, option_and_then, string_bytes};
 ghost use Rattle.qv_words.specs.Calls.{AreCalls};
-ghost use Rattle.qv_words.specs.Words.{command_with, compiles, assembles, disassembles, only_name, runs, builds, generates, calls_in, steps_in, all_of};
+ghost use Rattle.qv_words.specs.Words.{command_with, compiles, assembles, disassembles, only_name, runs, builds, generates, calls_in, steps_in, default_steps, all_of};
 ghost use Rattle.qv_words.specs.Shown.{command_shown, options_shown, KeepsLimits};
 
 use crate::calls::Calls;
 use crate::command::Command;
 use crate::names::{are_files, are_units, have_distinct_stems, is_name};
 use crate::options::Options;
-use crate::verb::Verb;
+use crate::verb::{Verb, default_steps};
 use qv_base::NoMemory;
 use qv_base::limits::CALL_WORDS;
 use std::alloc::Global;
-
-/// The most steps of a call where the words say nothing.
-pub const DEFAULT_STEPS: u64 = 10_000_000;
 
 /// The command of the options and the names behind them. None where an option is missing that has to be
 /// there, or the names aren't the command's.
@@ -123,7 +120,7 @@ fn run(options: Options, names: &[String]) -> Result<Option<Command>, NoMemory>
     let Some(image) = only_name(names)? else {
         return Ok(None);
     };
-    let steps = options.steps.unwrap_or(DEFAULT_STEPS);
+    let steps = options.steps.unwrap_or(default_steps(Verb::Run));
     let calls = all_calls(options.calls)?;
     Ok(Some(Command::Qrun {
         steps,
@@ -154,7 +151,7 @@ fn build(alloc: Global, options: Options, names: &[String]) -> Result<Option<Com
         return Ok(None);
     }
     let units = copied(alloc, names)?;
-    all_of(options, units)
+    all_of(Verb::Build, options, units)
 }
 
 fn generate(alloc: Global, options: Options, names: &[String]) -> Result<Option<Command>, NoMemory>
@@ -164,12 +161,16 @@ fn generate(alloc: Global, options: Options, names: &[String]) -> Result<Option<
     if !names.is_empty() {
         return Ok(None);
     }
-    all_of(options, Vec::new(alloc))
+    all_of(Verb::Generate, options, Vec::new(alloc))
 }
 
 // The command `qall` of the options and the units. None where the image is missing.
-fn all_of(options: Options, units: Vec<String>) -> Result<Option<Command>, NoMemory>
-    ensures reading { IfOk result (λ c. option_map command_shown c ≡ all_of (options_shown options) (map string_bytes units.items)) }
+fn all_of(
+    verb: Verb,
+    options: Options,
+    units: Vec<String>,
+) -> Result<Option<Command>, NoMemory>
+    ensures reading { IfOk result (λ c. option_map command_shown c ≡ all_of verb (options_shown options) (map string_bytes units.items)) }
     ensures limits { IfOk result (λ c. IfSome c KeepsLimits) }
 {
     let Options {
@@ -191,7 +192,7 @@ fn all_of(options: Options, units: Vec<String>) -> Result<Option<Command>, NoMem
         defs,
         binds,
         seed_size,
-        steps: steps.unwrap_or(DEFAULT_STEPS),
+        steps: steps.unwrap_or(default_steps(verb)),
         calls,
         image,
         units,
@@ -200,16 +201,16 @@ fn all_of(options: Options, units: Vec<String>) -> Result<Option<Command>, NoMem
 
 // The words of all calls, the last one among them.
 fn all_calls(calls: Calls) -> Result<Vec<[u32; CALL_WORDS]>, NoMemory>
-    ensures all { IfOk result (λ all. all.items ≡ calls.ended.items ++ calls.words ∷ []) }
+    ensures all { IfOk result (λ all. all.items ≡ calls.earlier.items ++ calls.last ∷ []) }
     ensures calls { IfOk result (λ all. AreCalls all.items) }
 {
     let Calls {
-        mut ended,
-        words,
+        earlier: mut all,
+        last,
         count: _,
     } = calls;
-    ended.push(words)?;
-    Ok(ended)
+    all.push(last)?;
+    Ok(all)
 }
 
 // Copies of the names.
