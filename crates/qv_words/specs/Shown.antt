@@ -38,7 +38,7 @@ command_shown (ReadQall dirs defs binds seed_size steps calls image units) =
 abbrev pub options_shown : ReadOptions → Options
 options_shown o = record {
   dirs = map string_bytes o.dirs.items;
-  defs = map define_shown o.defs.items;
+  defs = map define_shown o.defs.entries;
   binds = option_map string_bytes o.binds;
   folder = option_map string_bytes o.folder;
   image = option_map string_bytes o.image;

@@ -8,6 +8,7 @@ use crate::define::{define, definition};
 use crate::number::{steps, word};
 use crate::options::Options;
 use crate::verb::{OptionName, Switch, Verb, option_named, switch_named, takes, takes_switch};
+use indexmap::IndexMap;
 use qv_base::NoMemory;
 use qv_base::limits::CALL_WORDS;
 use std::alloc::Global;
@@ -21,7 +22,7 @@ pub fn no_options(alloc: Global) -> Options
 {
     Options {
         dirs: Vec::new(alloc),
-        defs: Vec::new(alloc),
+        defs: IndexMap::new(alloc),
         binds: None,
         folder: None,
         image: None,
@@ -143,10 +144,10 @@ fn read_dir(alloc: Global, options: &mut Options, value: &str) -> Result<bool, N
 fn read_definition(alloc: Global, options: &mut Options, value: &str) -> Result<bool, NoMemory>
     ensures { IfOk result (λ read. (if read then Some (options_shown options.new) else None) ≡ with_value (options_shown options.old) OptionName.Definition value.now) }
 {
-    let Some(d) = definition(alloc, value)? else {
+    let Some((name, text)) = definition(alloc, value)? else {
         return Ok(false);
     };
-    define(&mut options.defs, d)?;
+    define(&mut options.defs, name, text)?;
     Ok(true)
 }
 
