@@ -1,5 +1,5 @@
 -- What a line that can be read stands for: instructions, bytes of a segment, a name.
-use Rattle.std.specs.Prelude.{ℕ, ◌+◌, ◌*◌, ◌%◌, ◌^◌, List, [], ◌∷◌, ◌++◌, Option, Some, None, map, replicate, sum, unwrap_or}
+use Rattle.std.specs.Prelude.{ℕ, ◌+◌, ◌*◌, ◌%◌, ◌^◌, List, [], ◌∷◌, ◌++◌, Option, Some, None, replicate, unwrap_or}
 use Rattle.qv_ops.specs.Code.{word_bytes}
 use Rattle.qv_ops.specs.Table.{width_of_op}
 use Rattle.qv_ops.specs.declared.instr.Instr.{Instr}
@@ -49,7 +49,8 @@ code_of procedure arg_words row = []
 
 -- the bytes that instructions take
 abbrev pub code_size : List SymbolicInstr → ℕ
-code_size code = sum (map (λ i. 1 + width_of_op i.op) code)
+code_size [] = 0
+code_size (i ∷ code) = 1 + width_of_op i.op + code_size code
 
 -- an instruction, once expressions have values
 abbrev pub resolved : (Expression → ℕ) → SymbolicInstr → Instr

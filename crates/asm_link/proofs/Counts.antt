@@ -1,5 +1,5 @@
 -- What the lines before a place come to counts their instructions and bytes.
-use Rattle.std.proofs.Common.{◌≡◌, ℕ, ◌+◌, ◌%◌, ◌^◌, List, [], ◌∷◌, length, refl, arith, length-append}
+use Rattle.std.proofs.Common.{◌≡◌, ℕ, suc, ap, ◌∙◌, ◌+◌, ◌%◌, ◌^◌, List, [], ◌∷◌, length, refl, arith, length-append}
 use Rattle.std.specs.Prelude.{Bool, Option, Some, None, true, false, flat_map, map, replicate, if◌then◌else◌}
 use Rattle.std.proofs.lemmas.List.{length-map, length-replicate}
 use Rattle.std.proofs.lemmas.Grind.{flat_map-append}
@@ -20,7 +20,7 @@ use Rattle.asm_link.specs.Visits.{visits_from}
 -- instructions
 
 count_entry : (value : Expression → ℕ) (s : Before) (e : Entry) → (step_entry e s).count ≡ s.count + length (map (resolved value) (entry_code e s))
-count_entry value s (Read row) = omega (arith, length-map (resolved value) (entry_code (Read row) s))
+count_entry value s (Read row) = omega (arith, length-map (entry_code (Read row) s) (resolved value))
 count_entry value s (Unread fault) = omega arith
 count_entry value s FileEnd = omega arith
 
@@ -38,7 +38,10 @@ length-operand op v = refl
 size-code : (value : Expression → ℕ) (code : List SymbolicInstr) → length (code_bytes (map (resolved value) code)) ≡ code_size code
 size-code value [] = refl
 size-code value (i ∷ code) =
-    omega (arith, size-code value code, length-operand i.op (value i.operand % 2 ^ 32), length-append (instr_bytes (resolved value i)) (code_bytes (map (resolved value) code)))
+    length-append (instr_bytes (resolved value i)) (code_bytes (map (resolved value) code))
+    ∙ ap (λ n. suc n + length (code_bytes (map (resolved value) code))) (length-operand i.op (value i.operand % 2 ^ 32))
+    ∙ ap (λ n. suc (width_of_op i.op) + n) (size-code value code)
+    ∙ omega arith
 
 bytes_entry : (value : Expression → ℕ) (s : Before) (e : Entry) → (step_entry e s).code_bytes ≡ s.code_bytes + length (code_bytes (map (resolved value) (entry_code e s)))
 bytes_entry value s (Read row) = omega (arith, size-code value (entry_code (Read row) s))

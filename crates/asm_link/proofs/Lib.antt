@@ -1,4 +1,5 @@
 pub mod Noting
 pub mod Settling
-mod Counts
+pub mod Counts
 pub mod Limits
+pub mod Gathering

@@ -1,12 +1,12 @@
 -- A definition more in the table of names.
-use Rattle.std.proofs.Common.{◌≡◌, ℕ, ◌+◌, ◌<◌, ◌≤◌, Bool, true, false, ◌&&◌, take, drop, List, [], ◌∷◌, ◌++◌, length, Option, Some, None, cond, refl, sym, ap, ◌∙◌, arith}
+use Rattle.std.proofs.Common.{◌≡◌, ℕ, ◌+◌, ◌<◌, ◌≤◌, Bool, true, false, ◌&&◌, take, drop, List, [], ◌∷◌, ◌++◌, append-nil, length, Option, Some, None, cond, refl, sym, ap, ◌∙◌, arith}
 use Rattle.std.specs.Prelude.{IsErrOf, IsSome, OnErr, OnOk, Result, Ok, Err, is_some, map as list_map, option_map, slice_get, if◌then◌else◌}
 use Rattle.std.specs.FinMap as map
 use Rattle.std.specs.FinMap.{get-insert}
 use Rattle.std.specs.Option.{option_or}
 use Rattle.std.specs.Ordering.{eq_by_cmp}
 use Rattle.std.specs.List.{list_all}
-use Rattle.std.proofs.lemmas.List.{get_or_append_left, get_or_push, length_push, map-append, take-append-drop, take-append-le}
+use Rattle.std.proofs.lemmas.List.{get_or_append_left, get_or_push, length_push, take-append-drop, take-append-le, take_all}
 use Rattle.std.proofs.lemmas.Option.{slice_get-get_or, slice_get-map}
 use Rattle.asm_place.proofs.Keys.{equal_is, exact_keys, keys_total, same_key-name}
 use Rattle.asm_place.specs.Symbols.{Key, SymbolMap, key_of, key_order, same_name}
@@ -143,12 +143,18 @@ settled_all address (d ∷ ds) h =
     and_both true b h = (refl, h)
     and_both false b h = absurd (cc)
 
--- settling those behind them settles all
-pub settled_behind : (address : Address) (k : ℕ) (ds : List Noted) → list_all is_settled (take k ds) ≡ true → take k ds ++ list_map (note_settled address) (drop k ds) ≡ list_map (note_settled address) ds
-settled_behind address k ds h =
-    ap (λ xs. xs ++ list_map (note_settled address) (drop k ds)) (sym (settled_all address (take k ds) h))
-    ∙ sym (map-append (note_settled address) (take k ds) (drop k ds))
-    ∙ ap (list_map (note_settled address)) (take-append-drop k ds)
+-- settling changes none of them
+pub settled_front : (address : Address) (k : ℕ) (ds : List Noted) → list_all is_settled (take k ds) ≡ true → ds ≡ list_map (note_settled address) (take k ds) ++ drop k ds
+settled_front address k ds h = sym (ap (λ xs. xs ++ drop k ds) (settled_all address (take k ds) h) ∙ take-append-drop k ds)
+
+-- all of a list that is written over one of its length
+pub written_over : (n : ℕ) (xs ds : List Noted) → n ≡ length ds → length xs ≡ length ds → take n (xs ++ drop (length xs) ds) ≡ xs
+written_over n xs ds is same =
+    ap (λ k. take n (xs ++ drop k ds)) same ∙ ap (λ ys. take n (xs ++ ys)) (drop-all ds) ∙ ap (take n) (append-nil xs) ∙ take_all n xs (omega (arith, is, same))
+  where
+    drop-all : (ys : List Noted) → drop (length ys) ys ≡ []
+    drop-all [] = refl
+    drop-all (y ∷ ys) = drop-all ys
 
 is_settled_now : (address : Address) (d : Noted) → is_settled (note_settled address d) ≡ true
 is_settled_now address d = fixed d.held

@@ -1,14 +1,14 @@
 -- A line that settles no label changes neither the segment nor the sizes.
-use Rattle.std.proofs.Common.{◌≡◌, ℕ, ◌+◌, List, ◌∷◌, Option, Some, None, refl, sym, ap, ◌∙◌, arith}
+use Rattle.std.proofs.Common.{◌≡◌, ℕ, false, ◌+◌, List, ◌∷◌, Option, Some, None, refl, sym, ap, ◌∙◌, arith}
 use Rattle.std.specs.Prelude.{unwrap_or}
 use Rattle.asm_line.specs.Row.{Row, Nothing, Proc, EndProc, One, Call, Arg, Ret, LocalAt, ParamAt, Into, Label, Equ, Word, LitByte, Skip, Align}
 use Rattle.asm_line.specs.Stands.{addition_of, settles}
 use Rattle.asm_line.specs.declared.line.AsmSegment.{AsmSegment}
 use Rattle.asm_line.specs.declared.line.AsmSegment.TheVariants.{Code, Data, Lit, Bss}
 use Rattle.asm_place.specs.declared.address.Address.TheVariants.{Relative}
-use Rattle.asm_link.specs.Definitions.{end_of, entry_address, name_in, settled_in, settles_entry}
+use Rattle.asm_link.specs.Definitions.{end_of, label_address, name_in, settled_in, settles_entry}
 use Rattle.asm_link.specs.Source.{Entry, SourceLine, Read, Unread, FileEnd}
-use Rattle.asm_link.specs.State.{Before, added_to, next_segment, size_in, row_addition, step, step_entry, step_row}
+use Rattle.asm_link.specs.State.{Before, added_to, is_segment, next_segment, size_in, row_addition, step, step_entry, step_row}
 
 adds_nothing : (g : AsmSegment) (n : ℕ) (row : Row) → settles g row ≡ None → addition_of g n row ≡ None
 adds_nothing g n (Word e) h = absurd (cc)
@@ -55,3 +55,10 @@ pub namer_settles_none : (g : AsmSegment) (e : Entry) (name : List ℕ) → name
 namer_settles_none g (Read row) name h = defines_only g row name h
 namer_settles_none g (Unread fault) name h = absurd (cc)
 namer_settles_none g FileEnd name h = absurd (cc)
+
+-- a label outside code stands where it is settled
+pub label_outside : (g : AsmSegment) (s : Before) (behind : List SourceLine) → is_segment g Code ≡ false → end_of (settled_in g behind) s ≡ label_address g s behind
+label_outside Code s behind h = absurd (cc)
+label_outside Data s behind h = refl
+label_outside Lit s behind h = refl
+label_outside Bss s behind h = refl

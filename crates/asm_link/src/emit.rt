@@ -49,7 +49,12 @@ pub fn append_line(
     };
     append_code(&mut parts.code, tables, line.file, s, &row)?;
     match added_by(s, &row) {
-        Some((AsmSegment::Data, added)) => append_bytes(&mut parts.data_part, tables, line.file, added),
+        Some((AsmSegment::Data, added)) => append_bytes(
+            &mut parts.data_part,
+            tables,
+            line.file,
+            added,
+        ),
         Some((AsmSegment::Lit, added)) => append_bytes(&mut parts.lit, tables, line.file, added),
         _ => Ok(()),
     }

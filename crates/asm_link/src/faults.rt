@@ -123,9 +123,8 @@ fn outside_proc<'a>(line: &Line<'a>, s: &State<'a>) -> Option<LentKind<'a>>
     ensures { option_map kind_of result ≡ outside_proc (row_of line.now) (before_of s.now) }
 {
     match line {
-        Line::EndProc | Line::Ret | Line::LocalAt(_) | Line::ParamAt(_) if s.procedure.is_none() => {
-            Some(LentKind::OutsideProc)
-        }
+        Line::EndProc | Line::Ret | Line::LocalAt(_) | Line::ParamAt(_) if s.procedure.is_none() =>
+            { Some(LentKind::OutsideProc) }
         _ => None,
     }
 }
@@ -194,7 +193,12 @@ fn branch_far<'a>(tables: &Tables<'a>, file: u32, line: &Line<'a>) -> Option<Len
 }
 
 // The fault of a line that can be read.
-fn of_line<'a>(tables: &Tables<'a>, file: u32, line: &Line<'a>, s: &State<'a>) -> Option<LentKind<'a>>
+fn of_line<'a>(
+    tables: &Tables<'a>,
+    file: u32,
+    line: &Line<'a>,
+    s: &State<'a>,
+) -> Option<LentKind<'a>>
     requires { weight (before_of s.now) < 2 ^ 124 }
     ensures { option_map kind_of result ≡ of_line (source_of (texts_of tables.now.files.now)) file (row_of line.now) (before_of s.now) }
 {
@@ -220,7 +224,12 @@ fn of_line<'a>(tables: &Tables<'a>, file: u32, line: &Line<'a>, s: &State<'a>) -
 }
 
 // The fault of an entry that can be read.
-fn of_entry<'a>(tables: &Tables<'a>, file: u32, entry: &Entry<'a>, s: &State<'a>) -> Option<LentKind<'a>>
+fn of_entry<'a>(
+    tables: &Tables<'a>,
+    file: u32,
+    entry: &Entry<'a>,
+    s: &State<'a>,
+) -> Option<LentKind<'a>>
     requires { weight (before_of s.now) < 2 ^ 124 }
     ensures { option_map kind_of result ≡ of_entry (source_of (texts_of tables.now.files.now)) file (entry_of entry.now) (before_of s.now) }
 {

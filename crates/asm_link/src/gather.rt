@@ -22,7 +22,10 @@ pub fn gather(alloc: Global, files: &[AsmFile]) -> Result<Tables<'_>, NoMemory>
         note(&mut names, at, &state, &line)?;
         advance(&mut state, &line);
         // No memory holds 2^64 lines.
-        at = at.checked_add(1).ok_or(NoMemory)?;
+        if at == u64::MAX {
+            return Err(NoMemory);
+        }
+        at += 1;
     }
     Ok(Tables {
         files,

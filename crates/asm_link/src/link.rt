@@ -38,7 +38,9 @@ pub fn link(alloc: Global, files: &[AsmFile]) -> Result<Image, AsmFault>
     if let Some(end) = end_fault(files.len() as u32, last) {
         return Err(refuse(alloc, first_fault(&tables).unwrap_or(end)));
     }
-    if last.code_bytes > u128::from(CODE_BYTES) && let Some(fault) = first_fault(&tables) {
+    if last.code_bytes > u128::from(CODE_BYTES)
+        && let Some(fault) = first_fault(&tables)
+    {
         return Err(refuse(alloc, fault));
     }
     let parts = build_parts(alloc, &tables)?;

@@ -1,15 +1,17 @@
 // Defines and finds names.
-ghost use Rattle.std.specs.Prelude.{◌≡◌, ◌∷◌, ℕ, List, OnOk, Some, None, map, option_map, if◌then◌else◌};
+ghost use Rattle.std.specs.Prelude.{◌≡◌, ◌∷◌, ◌≤◌, ℕ, IsTrue, List, OnOk, Some, None, length, map, option_map, take, if◌then◌else◌};
+ghost use Rattle.std.specs.List.{list_all};
 ghost use Rattle.std.specs.Option.{option_or};
 ghost use Rattle.asm_line.specs.Shown.{bytes_of};
+ghost use Rattle.asm_line.specs.declared.line.AsmSegment.TheVariants.{Code};
 ghost use Rattle.asm_place.specs.Symbols.{same_name};
 ghost use Rattle.asm_place.specs.declared.address.Address.{Address};
-ghost use Rattle.asm_place.specs.declared.address.Address.TheVariants.{Absolute};
 ghost use Rattle.asm_link.specs.Definitions.{defined_by, end_of, entry_address, known_by, label_address, name_in, settled_in, settles_entry};
-ghost use Rattle.asm_link.specs.Held.{held_at, note_settled, noted_at};
+ghost use Rattle.asm_link.specs.Held.{held_at, is_settled, note_settled, noted_at};
 ghost use Rattle.asm_link.specs.Lookup.{lookup};
 ghost use Rattle.asm_link.specs.Shown.{before_of, end_behind, entry_of, line_of};
 ghost use Rattle.asm_link.specs.Source.{SourceLine as LineShown};
+ghost use Rattle.asm_link.specs.State.{is_segment};
 
 use crate::known::Known;
 use crate::names::Names;
@@ -33,17 +35,18 @@ pub fn no_names(alloc: Global) -> Names
     }
 }
 
-/// What is known of a name in a file, once no label waits. None where it isn't defined.
-pub fn find(names: &Names, file: u32, name: &[u8]) -> Option<Known>
-    ensures { result ≡ lookup (Absolute 0) names.now file name.now }
+/// What is known of a name in a file, where labels that wait have this address. None where it isn't
+/// defined.
+pub fn find(names: &Names, address: Address, file: u32, name: &[u8]) -> Option<Known>
+    ensures { result ≡ lookup address names.now file name.now }
 {
     let number = names.symbols.find(file, name)?;
     let noted = names.notes.get(number as usize)?;
     Some(Known {
         at: noted.at,
         address: match noted.held {
-            Held::Settled(address) => address,
-            Held::Waiting => Address::Absolute(0),
+            Held::Settled(settled) => settled,
+            Held::Waiting => address,
         },
     })
 }
@@ -94,7 +97,9 @@ fn settles(current: AsmSegment, entry: &Entry<'_>) -> Option<AsmSegment>
     match entry {
         Entry::Read(Line::Word(_)) => Some(AsmSegment::Data),
         Entry::Read(Line::LitByte(_)) => Some(AsmSegment::Lit),
-        Entry::Read(Line::Skip(_) | Line::Align(_) | Line::Into(_)) | Entry::FileEnd => Some(current),
+        Entry::Read(Line::Skip(_) | Line::Align(_) | Line::Into(_)) | Entry::FileEnd => Some(
+            current,
+        ),
         _ => None,
     }
 }
@@ -116,20 +121,29 @@ fn held(entry: &Entry<'_>, s: &State<'_>) -> Held
     ensures { (behind : List LineShown) → held_at (end_of (settled_in s.now.segment behind) (before_of s.now)) result ≡ entry_address (entry_of entry.now) (before_of s.now) behind }
 {
     match entry {
-        Entry::Read(Line::Equ { value, .. }) => Held::Settled(Address::Absolute(u128::from(*value))),
+        Entry::Read(Line::Equ { value, .. }) => Held::Settled(Address::Absolute(u128::from(
+            *value,
+        ))),
         Entry::Read(Line::Label(_)) => label_held(s),
         _ => Held::Settled(Address::Absolute(s.count)),
     }
 }
 
 // What a label stands for: outside code it waits.
+#[tactic(auto, using(crate::proofs::Settling::label_outside))]
 fn label_held(s: &State<'_>) -> Held
     ensures { (behind : List LineShown) → held_at (end_of (settled_in s.now.segment behind) (before_of s.now)) result ≡ label_address s.now.segment (before_of s.now) behind }
 {
-    match s.segment {
-        AsmSegment::Code => Held::Settled(Address::Absolute(s.count)),
-        AsmSegment::Data | AsmSegment::Lit | AsmSegment::Bss => Held::Waiting,
+    if is_code(s.segment) {
+        return Held::Settled(Address::Absolute(s.count));
     }
+    Held::Waiting
+}
+
+fn is_code(segment: AsmSegment) -> bool
+    ensures { result ≡ is_segment segment Code }
+{
+    segment == AsmSegment::Code
 }
 
 // Settles the labels that wait at this address.
@@ -137,18 +151,32 @@ fn settle(names: &mut Names, address: Address)
     ensures symbols { names.new.symbols ≡ names.old.symbols }
     ensures notes { names.new.notes.items ≡ map (note_settled address) names.old.notes.items }
 {
-    let from = names.first_waiting;
-    settle_notes(&mut names.notes[from..], address);
+    settle_from(&mut names.notes, names.first_waiting, address);
     names.first_waiting = names.notes.len();
 }
 
-fn settle_notes(notes: &mut [Noted], address: Address)
+// Settles the definitions from this number on. Those before it are settled.
+fn settle_from(notes: &mut [Noted], first: usize, address: Address)
+    requires within { first ≤ length notes.old }
+    requires settled { IsTrue (list_all is_settled (take first notes.old)) }
     ensures { notes.new ≡ map (note_settled address) notes.old }
 {
-    for noted in notes {
-        if let Held::Waiting = noted.held {
-            noted.held = Held::Settled(address);
-        }
+    for i in first..notes.len() {
+        let noted = notes[i];
+        notes[i] = settled(noted, address);
+    }
+}
+
+// A definition once the labels that wait have this address.
+fn settled(noted: Noted, address: Address) -> Noted
+    ensures { result ≡ note_settled address noted }
+{
+    match noted.held {
+        Held::Settled(_) => noted,
+        Held::Waiting => Noted {
+            at: noted.at,
+            held: Held::Settled(address),
+        },
     }
 }
 

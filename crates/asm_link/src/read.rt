@@ -15,19 +15,19 @@ pub fn read_files(files: &[AsmFile]) -> Reader<'_>
     requires { length files.now < 2 ^ 32 }
     ensures { left result ≡ source_of (texts_of files.now) }
 {
-    match files {
-        [first, rest @ ..] => Reader {
-            files: rest,
-            file: 0,
-            line: 1,
-            position: Position::Text(&first.text),
-        },
-        [] => Reader {
+    let [first, rest @ ..] = files else {
+        return Reader {
             files,
             file: 0,
             line: 1,
             position: Position::Done,
-        },
+        };
+    };
+    Reader {
+        files: rest,
+        file: 0,
+        line: 1,
+        position: Position::Text(&first.text),
     }
 }
 

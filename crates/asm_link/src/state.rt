@@ -109,11 +109,7 @@ fn next_arg_words(arg_words: u128, line: &Line<'_>) -> u128
 }
 
 // The last label outside code, behind a line.
-fn next_last<'a>(
-    current: AsmSegment,
-    last: Option<&'a [u8]>,
-    line: &Line<'a>,
-) -> Option<&'a [u8]>
+fn next_last<'a>(current: AsmSegment, last: Option<&'a [u8]>, line: &Line<'a>) -> Option<&'a [u8]>
     ensures { option_map bytes_of result ≡ next_last current (option_map bytes_of last.entry) (row_of line.now) }
 {
     match *line {
@@ -214,13 +210,14 @@ pub fn step<'a>(s: &State<'a>, line: &SourceLine<'a>) -> State<'a>
     match &line.entry {
         Entry::Read(line) => step_line(s, line),
         Entry::Unread(_) => *s,
+        // A file begins as the first one does; counts and sizes go on.
         Entry::FileEnd => State {
-            segment: AsmSegment::Code,
-            procedure: None,
-            arg_words: 0,
-            last: None,
-            waits: false,
-            ..*s
+            count: s.count,
+            code_bytes: s.code_bytes,
+            data_size: s.data_size,
+            lit_size: s.lit_size,
+            bss_size: s.bss_size,
+            ..start()
         },
     }
 }

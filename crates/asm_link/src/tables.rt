@@ -1,8 +1,7 @@
 // What all lines come to, once they have been read.
 ghost use Rattle.std.specs.Prelude.{◌≡◌, ℕ, ◌<◌, ◌^◌, IsTrue, List, length};
 ghost use Rattle.std.specs.List.{list_all};
-ghost use Rattle.asm_place.specs.declared.address.Address.TheVariants.{Absolute};
-ghost use Rattle.asm_link.specs.Definitions.{known, state_after};
+ghost use Rattle.asm_link.specs.Definitions.{end_of, known, state_after};
 ghost use Rattle.asm_link.specs.Lookup.{lookup};
 ghost use Rattle.asm_link.specs.Shown.{before_of, texts_of};
 ghost use Rattle.asm_link.specs.Source.{carries, source_of};
@@ -22,7 +21,7 @@ pub struct Tables<'a> {
     /// The state behind the last line.
     pub last: State<'a>,
     ghost few: { length files.now < 2 ^ 32 },
-    ghost named: { (file : ℕ) (name : List ℕ) → lookup (Absolute 0) names file name ≡ known (source_of (texts_of files.now)) file name },
+    ghost named: { (file : ℕ) (name : List ℕ) → lookup (end_of last.segment (before_of last)) names file name ≡ known (source_of (texts_of files.now)) file name },
     ghost counted: { before_of last ≡ state_after start (source_of (texts_of files.now)) },
     ghost small: { weight (before_of last) < 2 ^ 124 },
     ghost countable: { length (source_of (texts_of files.now)) < 2 ^ 64 },

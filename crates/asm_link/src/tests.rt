@@ -143,7 +143,12 @@ const REFUSALS: [(&[&[u8]], u32, u32, LentKind<'static>); 11] = [
         4,
         LentKind::MixedSegments(b"x"),
     ),
-    (&[b"proc p 0 0", b"endproc p 0 0"], 1, 1, LentKind::OutsideProc),
+    (
+        &[b"proc p 0 0", b"endproc p 0 0"],
+        1,
+        1,
+        LentKind::OutsideProc,
+    ),
     (
         &[b"ADDRGP4 $1", b"LABELV $1"],
         0,
@@ -159,7 +164,12 @@ const REFUSALS: [(&[&[u8]], u32, u32, LentKind<'static>); 11] = [
         0,
         LentKind::DataTooLarge(8_590_000_132),
     ),
-    (&[b"bss\nskip 67043325\npop\nRETV"], 0, 4, LentKind::OutsideProc),
+    (
+        &[b"bss\nskip 67043325\npop\nRETV"],
+        0,
+        4,
+        LentKind::OutsideProc,
+    ),
 ];
 
 #[test]

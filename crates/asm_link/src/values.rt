@@ -1,14 +1,14 @@
 // What names and expressions stand for.
 ghost use Rattle.std.specs.Prelude.{◌≡◌, ◌+◌, ◌<◌, ◌^◌, ◌%◌};
 ghost use Rattle.asm_line.specs.Shown.{expression_of};
-ghost use Rattle.asm_link.specs.Definitions.{known, number, base, value_of};
+ghost use Rattle.asm_link.specs.Definitions.{base, end_of, known, number, value_of};
 ghost use Rattle.asm_link.specs.Shown.{before_of, texts_of};
 ghost use Rattle.asm_link.specs.Source.{source_of};
 ghost use Rattle.asm_link.specs.State.{weight};
 
 use crate::known::Known;
 use crate::naming::find;
-use crate::state::State;
+use crate::state::{State, size_in};
 use crate::tables::Tables;
 use asm_line::line::{AsmSegment, Value};
 use asm_place::address::Address;
@@ -18,7 +18,14 @@ use asm_place::size::rounded;
 pub fn known(tables: &Tables<'_>, file: u32, name: &[u8]) -> Option<Known>
     ensures { result ≡ known (source_of (texts_of tables.now.files.now)) file name.now }
 {
-    find(&tables.names, file, name)
+    find(&tables.names, end_of(&tables.last), file, name)
+}
+
+// The end of the current segment.
+fn end_of(last: &State<'_>) -> Address
+    ensures { result ≡ end_of last.now.segment (before_of last.now) }
+{
+    Address::Relative(last.segment, size_in(last, last.segment))
 }
 
 // The length of the segments before one.

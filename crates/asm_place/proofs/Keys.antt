@@ -1,11 +1,9 @@
--- Keys of names, and the map of symbols.
-use Rattle.std.proofs.Common.{◌≡◌, ℕ, Bool, true, false, ◌&&◌, ◌||◌, List, [], ◌∷◌, ◌++◌, Option, Some, None, cond, refl, sym, ap, ◌∙◌, arith}
-use Rattle.std.specs.Prelude.{is_some, not, ◌==◌, if◌then◌else◌}
+-- Keys of names.
+use Rattle.std.proofs.Common.{◌≡◌, ℕ, Bool, true, false, ◌&&◌, ◌||◌, List, Option, Some, None, refl, sym, ap, ◌∙◌, arith}
+use Rattle.std.specs.Prelude.{not, ◌==◌, if◌then◌else◌}
 use Rattle.std.specs.Cmp.{IsTotalOrder}
 use Rattle.std.specs.Cmp.Lexicographic.{options_total, slice_cmp}
-use Rattle.std.specs.FinMap as map
-use Rattle.std.specs.FinMap.{get-from_entries, get-insert, same_map}
-use Rattle.std.specs.Option.{option_cmp, option_eq, option_or}
+use Rattle.std.specs.Option.{option_cmp, option_eq}
 use Rattle.std.specs.Ordering.{eq_by_cmp, is_eq, nat_cmp, ordering_then}
 use Rattle.std.specs.Str.{bytes_eq}
 use Rattle.std.specs.declared.cmp.Ordering.{Ordering}
@@ -52,40 +50,10 @@ same_key a b =
     ∙ ap (λ t. t && is_eq (slice_cmp nat_cmp a.1 b.1)) (same_owner a.0 b.0)
     ∙ ap (λ t. option_eq (λ a b. a == b) a.0 b.0 && t) (is_eq-slice_cmp a.1 b.1)
 
--- the map of symbols
-
-cond_later : (b : Bool) (v : ℕ) (o : Option ℕ) → (b ≡ true → o ≡ None) → option_or o (cond b (Some v) None) ≡ cond b (Some v) o
-cond_later true v o none = ap (λ x. option_or x (Some v)) (none refl)
-cond_later false v None none = refl
-cond_later false v (Some x) none = refl
-
--- what a key finds with one entry more at the end
-find_more : (es : List (Key × ℕ)) (k : Key) (v : ℕ) (q : Key) → map.find key_order q (es ++ (k, v) ∷ []) ≡ option_or (map.find key_order q es) (cond (eq_by_cmp key_order q k) (Some v) None)
-find_more [] k v q = refl
-find_more (e ∷ es) k v q =
-    ap (λ o. cond (eq_by_cmp key_order q e.0) (Some e.1) o) (find_more es k v q)
-    ∙ onto (eq_by_cmp key_order q e.0) e.1 (map.find key_order q es) (cond (eq_by_cmp key_order q k) (Some v) None)
-  where
-    onto : (b : Bool) (x : ℕ) (o p : Option ℕ) → cond b (Some x) (option_or o p) ≡ option_or (cond b (Some x) o) p
-    onto true x o p = refl
-    onto false x o p = refl
-
 pub equal_is : (r : Ordering) → is_eq r ≡ true → r ≡ Equal
 equal_is Less h = cc
 equal_is Equal h = refl
 equal_is Greater h = cc
-
-pub absent : (o : Option ℕ) → is_some o ≡ false → o ≡ None
-absent None h = refl
-absent (Some n) h = cc
-
--- a key that isn't there is added at the end
-pub added : (es : List (Key × ℕ)) (k : Key) (v : ℕ) → map.find key_order k es ≡ None → map.from_entries {R = key_order} (es ++ (k, v) ∷ []) ≡ map.insert (map.from_entries es) k v
-added es k v none = same_map keys_total exact_keys _ _ (λ q.
-    get-from_entries keys_total (es ++ (k, v) ∷ []) q
-    ∙ find_more es k v q
-    ∙ cond_later (eq_by_cmp key_order q k) v (map.find key_order q es) (λ h. ap (λ x. map.find key_order x es) (exact_keys q k (equal_is (key_order q k) h)) ∙ none)
-    ∙ sym (get-insert keys_total (map.from_entries es) k v q ∙ ap (cond (eq_by_cmp key_order q k) (Some v)) (get-from_entries keys_total es q)))
 
 -- two names are one where their keys are
 

@@ -1,13 +1,15 @@
 -- Names with the numbers that they stand for.
-use Rattle.std.specs.Prelude.{ℕ, Bool, false, ◌==◌, ◌&&◌, ◌||◌, not, List, [], ◌∷◌, Option, Some, None, map as list_map, if◌then◌else◌}
+use Rattle.std.specs.Prelude.{ℕ, Bool, false, nat_eq, ◌==◌, ◌&&◌, ◌||◌, not, List, [], ◌∷◌, Option, Some, None, map as list_map, if◌then◌else◌}
 use Rattle.std.specs.Coded.{Coded, coded_list, coded_option, coded_ℕ, coded×}
 use Rattle.std.specs.Cmp.Lexicographic.{slice_cmp}
 use Rattle.std.specs.FinMap as map
-use Rattle.std.specs.Option.{option_cmp}
+use Rattle.std.specs.List.{flat_map}
+use Rattle.std.specs.Option.{option_cmp, option_eq}
 use Rattle.std.specs.Ordering.{nat_cmp, ordering_then}
 use Rattle.std.specs.Str.{bytes_eq}
 use Rattle.std.specs.declared.cmp.Ordering.{Ordering}
-use Rattle.asm_place.specs.declared.symbols.Symbol.{Symbol}
+use Rattle.std.specs.declared.vec.Vec.{Vec}
+use Rattle.indexmap.specs.IndexMap.{IndexMap}
 
 -- a name that begins with $ belongs to its file
 abbrev pub is_local : List ℕ → Bool
@@ -39,12 +41,17 @@ SymbolMap = map.FinMap key_order ℕ
 abbrev pub symbol_map_code : Coded SymbolMap
 symbol_map_code = map.code (coded× (coded_option coded_ℕ) (coded_list coded_ℕ)) coded_ℕ
 
-abbrev pub entry_of : Symbol → Key × ℕ
-entry_of s = ((s.owner, s.name), s.value)
+-- the names of one owner, with their numbers
+abbrev pub Table : Type 0 → Type 0 → Type 0
+Table Y S = IndexMap (Vec ℕ Y) ℕ S
 
-abbrev pub entries_of : List Symbol → List (Key × ℕ)
-entries_of symbols = list_map entry_of symbols
+abbrev pub same_owner : Option ℕ → Option ℕ → Bool
+same_owner a b = option_eq nat_eq a b
 
--- the map that symbols make, no two of which have one key
-abbrev pub map_of : List Symbol → SymbolMap
-map_of symbols = map.from_entries (entries_of symbols)
+module _ {Y S : Type 0} where
+  abbrev pub entries_of : Option ℕ → Table Y S → List (Key × ℕ)
+  entries_of owner table = list_map (λ e. ((owner, e.0.items), e.1)) table.entries
+
+  -- the map that the tables of the owners make
+  abbrev pub map_of : {S' : Type 0} → IndexMap (Option ℕ) (Table Y S) S' → SymbolMap
+  map_of tables = map.from_entries (flat_map (λ t. entries_of t.0 t.1) tables.entries)

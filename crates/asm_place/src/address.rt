@@ -1,4 +1,4 @@
-//! Addresses of names.
+//! Addresses that names stand for.
 use asm_line::line::AsmSegment;
 
 /// What a name stands for.
@@ -6,6 +6,6 @@ use asm_line::line::AsmSegment;
 pub enum Address {
     /// A number as it stands.
     Absolute(u128),
-    /// So many bytes behind the start of a segment.
+    /// So many bytes from the start of a segment.
     Relative(AsmSegment, u128),
 }

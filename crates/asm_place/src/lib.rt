@@ -1,4 +1,4 @@
-//! Places in segments, sizes, and names with what they stand for.
+//! Addresses in segments, sizes, and names with what they stand for.
 #![tactic(auto)]
 
 pub mod address;

@@ -1,11 +1,11 @@
 //! Names with the numbers that they stand for.
-ghost use Rattle.std.specs.Prelude.{◌≡◌, ◌∷◌, [], ◌++◌, OnOk, OnErr, IsErrOf, IsSome, ◌↔◌};
+ghost use Rattle.std.specs.Prelude.{◌≡◌, OnOk, OnErr, IsErrOf, IsSome, None, ◌↔◌};
 ghost use Rattle.std.specs.FinMap as map;
-ghost use Rattle.std.specs.Ordering.{eq_by_cmp};
-ghost use Rattle.asm_place.specs.Symbols.{entries_of, key_of, key_order, owner};
+ghost use Rattle.asm_place.specs.Symbols.{key_of, map_of, owner, same_owner};
+ghost use Rattle.indexmap.specs.IndexMap.{IsUnique};
 
+use indexmap::IndexMap;
 use qv_base::NoMemory;
-use qv_base::name::Name;
 use std::alloc::Global;
 use std::marker::Model;
 
@@ -29,13 +29,10 @@ impl From<NoMemory> for SymbolFault {
     }
 }
 
-// A name with the file that it belongs to, if it belongs to one, and the number that it stands for.
-#[derive(Drop)]
-struct Symbol {
-    owner: Option<u32>,
-    name: Name,
-    value: u64,
-}
+// The names of one owner with their numbers. The hash has a fixed seed: a random one is had from the
+// runtime alone, and the assembler runs without it. So a source whose names were chosen to collide
+// is slow to assemble, and nothing else.
+type Table = IndexMap<Vec<u8>, u64>;
 
 /// Names with the numbers that they stand for. Contracts see it as a finite map.
 ///
@@ -43,17 +40,21 @@ struct Symbol {
 #[derive(Drop)]
 pub struct Symbols {
     alloc: Global,
-    symbols: Vec<Symbol>,
+    // By owner: a file has the names that begin with `$`, and None those common to all files.
+    tables: IndexMap<Option<u32>, Table>,
 }
 
 impl Model for Symbols {
-    ghost use Rattle.asm_place.specs.Symbols.{SymbolMap, symbol_map_code, map_of};
+    ghost use Rattle.indexmap.specs.IndexMap.{IsUnique};
+    ghost use Rattle.asm_place.specs.Symbols.{SymbolMap, symbol_map_code, map_of, same_owner};
 
     ghost Value = { SymbolMap };
 
     ghost coded = { symbol_map_code };
 
-    ghost view = { λ s. map_of s.symbols.items };
+    ghost view = { λ s. map_of s.tables };
+
+    ghost invariant = { λ s. IsUnique same_owner s.tables };
 }
 
 impl Symbols {
@@ -63,7 +64,7 @@ impl Symbols {
     {
         Symbols {
             alloc,
-            symbols: Vec::new(alloc),
+            tables: IndexMap::new(alloc),
         }
     }
 
@@ -87,7 +88,7 @@ impl Symbols {
         if self.find(file, name).is_some() {
             return Err(SymbolFault::Redefined);
         }
-        append(&mut self.symbols, self.alloc, file, name, value)?;
+        add(&mut self.tables, self.alloc, owner(file, name), name, value)?;
         Ok(())
     }
 
@@ -95,7 +96,8 @@ impl Symbols {
     pub fn find(&self, file: u32, name: &[u8]) -> Option<u64>
         ensures { result ≡ map.get self.now (key_of file name.now) }
     {
-        value_in(&self.symbols, owner(file, name), name)
+        let table = self.tables.get(&owner(file, name))?;
+        table.get(name).copied()
     }
 }
 
@@ -109,56 +111,38 @@ fn owner(file: u32, name: &[u8]) -> Option<u32>
     }
 }
 
-// Appends a name in a file with its value.
-fn append(
-    symbols: &mut Vec<Symbol>,
+// Adds a name that its owner doesn't have. Where memory is refused, the names stay as they were.
+fn add(
+    tables: &mut IndexMap<Option<u32>, Table>,
     alloc: Global,
-    file: u32,
+    owner: Option<u32>,
     name: &[u8],
     value: u64,
 ) -> Result<(), NoMemory>
-    ensures ok { OnOk result (entries_of symbols.new.items ≡ entries_of symbols.old.items ++ (key_of file name.now, value) ∷ []) }
-    ensures err { OnErr result (entries_of symbols.new.items ≡ entries_of symbols.old.items) }
+    requires unique { IsUnique same_owner tables.old }
+    requires absent { map.get (map_of tables.old) (owner, name.now) ≡ None }
+    ensures ok { OnOk result (map_of tables.new ≡ map.insert (map_of tables.old) (owner, name.now) value) }
+    ensures err { OnErr result (map_of tables.new ≡ map_of tables.old) }
+    ensures unique { IsUnique same_owner tables.new }
 {
-    let name_copy = Name::from_bytes(alloc, name)?;
-    symbols.push(Symbol {
-        owner: owner(file, name),
-        name: name_copy,
-        value,
-    })?;
+    let name = name.to_vec(alloc)?;
+    tables
+        .entry(owner)?
+        .or_insert(IndexMap::new(alloc))
+        .insert(name, value)?;
     Ok(())
-}
-
-// The value of the first symbol with this key.
-fn value_in(symbols: &[Symbol], owner: Option<u32>, name: &[u8]) -> Option<u64>
-    ensures { result ≡ map.find key_order (owner, name.now) (entries_of symbols.now) }
-{
-    for symbol in symbols {
-        if has_key(symbol, owner, name) {
-            return Some(symbol.value);
-        }
-    }
-    None
-}
-
-// Whether a symbol has this key.
-#[tactic(auto, using(crate::proofs::Keys::same_key))]
-fn has_key(symbol: &Symbol, owner: Option<u32>, name: &[u8]) -> bool
-    ensures { result ≡ eq_by_cmp key_order (owner, name.now) (symbol.now.owner, symbol.now.name) }
-{
-    owner == symbol.owner && name == symbol.name.bytes()
 }
 
 #[cfg(test)]
 mod tests {
     use super::*;
 
-    // Names of two files, defined in this order.
+    // Names of three files, defined in this order.
     #[test]
     fn defines(rt: HostRuntime) {
         let mut symbols = Symbols::new(rt.alloc());
         let redefined = Err(SymbolFault::Redefined);
-        let table: [(u32, &[u8], u64, Result<(), SymbolFault>); 7] = [
+        let table: [(u32, &[u8], u64, Result<(), SymbolFault>); 9] = [
             (0, b"main", 1, Ok(())),
             (0, b"$1", 2, Ok(())),
             (1, b"$1", 3, Ok(())),
@@ -166,17 +150,21 @@ mod tests {
             (1, b"main", 5, redefined),
             (1, b"$", 6, Ok(())),
             (1, b"mai", 7, Ok(())),
+            (4_000_000_000, b"$1", 8, Ok(())),
+            (4_000_000_000, b"$1", 9, redefined),
         ];
         for (file, name, value, expected) in table {
             assert_eq!(rt; symbols.define(file, name, value, 1), expected);
         }
-        let found: [(u32, &[u8], Option<u64>); 7] = [
+        let found: [(u32, &[u8], Option<u64>); 9] = [
             (0, b"main", Some(1)),
-            (7, b"main", Some(1)),
+            (4_000_000_000, b"main", Some(1)),
             (0, b"$1", Some(2)),
             (1, b"$1", Some(3)),
+            (4_000_000_000, b"$1", Some(8)),
             (2, b"$1", None),
             (0, b"$", None),
+            (4_000_000_000, b"$", None),
             (0, b"mai", Some(7)),
         ];
         for (file, name, expected) in found {

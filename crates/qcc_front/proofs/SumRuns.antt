@@ -6,8 +6,8 @@ use Rattle.qv_ops.specs.declared.instr.Instr.{Instr}
 use Rattle.qv_ops.specs.declared.op.Op.TheVariants.{Const, Local, Load4}
 use Rattle.qv_outside.specs.Hosts.{Table}
 use Rattle.masked_mem.specs.Memory.{load4}
-use Rattle.vm_core.specs.Machine.{State, Turn, Goes, act, turn}
-use Rattle.vm_core.proofs.Goes.{HasAt, has_front, has_back, GoesIn, joined, turn_is, pushed_goes}
+use Rattle.vm_core.specs.Machine.{State, Step, Goes, act, step}
+use Rattle.vm_core.proofs.Goes.{HasAt, has_front, has_back, GoesIn, joined, step_is, pushed_goes}
 use Rattle.qcc_front.specs.declared.sum.Term.{Term}
 use Rattle.qcc_front.specs.declared.sum.Term.TheVariants.{Command, Number}
 use Rattle.qcc_front.specs.declared.sum.Sign.{Sign}
@@ -18,15 +18,15 @@ use Rattle.qasm_write.specs.Unit.{instr}
 use Rattle.qcc_front.proofs.UnitCode.{term_code, sign_op, signed_code, sum_code}
 
 module _ (code : List Instr) (table : Table) (memory : List ℕ) (p command : ℕ) (loads : load4 memory ((p + 16) % 2 ^ 32) ≡ command) where
-  abbrev f : State → Turn
-  f = turn code table
+  abbrev f : State → Step
+  f = step code table
 
   -- a state inside the function
   abbrev pub at : List ℕ → ℕ → State
   at ops pc = record { memory = memory; program_stack = p; operands = ops; next = pc }
 
   one_step : (ops ops' : List ℕ) (pc : ℕ) (i : Instr) → slice_get code pc ≡ Some i → act table (length code) i.op i.operand (at ops pc) ≡ Goes (at ops' (pc + 1)) → GoesIn f 1 (at ops pc) (at ops' (pc + 1))
-  one_step ops ops' pc i h e = (at ops' (pc + 1), turn_is code table i (at ops pc) h ∙ e, refl)
+  one_step ops ops' pc i h e = (at ops' (pc + 1), step_is code table i (at ops pc) h ∙ e, refl)
 
   -- a term pushes its value
   term_goes : (t : Term) (ops : List ℕ) (pc q : ℕ) → HasAt code pc (term_code t) → length ops < 256 → q ≡ pc + length (term_code t) → GoesIn f (length (term_code t)) (at ops pc) (at (term_value command t ∷ ops) q)

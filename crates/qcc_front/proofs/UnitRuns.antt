@@ -11,9 +11,9 @@ use Rattle.qv_outside.specs.Hosts.{Table}
 use Rattle.vm_core.specs.declared.stop.Stop.TheVariants.{Returned, StackOver, StackUnder}
 use Rattle.masked_mem.specs.Memory.{load4}
 use Rattle.vm_core.specs.Memory.{with_frame, block_size, doubled}
-use Rattle.vm_core.specs.Machine.{State, Turn, Goes, Stops, turn, entered, left, gone_back, returned, bottom, Going, Stopped, End, runs, started, fresh_memory}
-use Rattle.vm_core.specs.Calls.{CallsEnd, Came, Ended, with_calls, on_end, calls_run, image_run}
-use Rattle.vm_core.proofs.Goes.{HasAt, has_front, has_back, has_all, GoesIn, turn_is, goes_on, stops_behind}
+use Rattle.vm_core.specs.Machine.{State, Step, Goes, Stops, step, entered, left, gone_back, returned, bottom, Going, Stopped, End, runs, started, fresh_memory}
+use Rattle.vm_core.specs.Calls.{CallsEnd, AllReturned, Ended, with_calls, on_end, calls_run, image_run}
+use Rattle.vm_core.proofs.Goes.{HasAt, has_front, has_back, has_all, GoesIn, step_is, goes_on, stops_behind}
 use Rattle.vm_core.proofs.Frame.{frame_word, length-frame}
 use Rattle.vm_core.proofs.CallLaws.{nothing_left, one_more}
 use Rattle.qv_ops.specs.declared.op.Op.TheVariants.{Enter, Leave}
@@ -47,8 +47,8 @@ abbrev pub call_steps : Sum → ℕ
 call_steps e = suc (length (sum_code e))
 
 module _ (e : Sum) (table : Table) (memory : List ℕ) (a : ℕ) (rest : List ℕ) (room : HasRoom memory) (n : length (a ∷ rest) ≡ 14) (small : a < 2 ^ 32) where
-  abbrev f : State → Turn
-  f = turn (unit_code e) table
+  abbrev f : State → Step
+  f = step (unit_code e) table
 
   abbrev pub frame : List ℕ
   frame = with_frame memory (a ∷ rest)
@@ -71,7 +71,7 @@ module _ (e : Sum) (table : Table) (memory : List ℕ) (a : ℕ) (rest : List �
       let c : place + 16 < 2 ^ 32 = omega (arith, room.low, room.high) in
       let loads = ap (load4 frame) (mod-eq_of_lt c ∙ b) ∙ frame_word memory (a ∷ rest) 2 a rest (omega (arith, room.low)) room.words n (omega arith) small refl in (
         at (unit_code e) table frame place a loads [] 1,
-        turn_is (unit_code e) table (instr Enter 8) s refl ∙ entered_goes s 8 fits,
+        step_is (unit_code e) table (instr Enter 8) s refl ∙ entered_goes s 8 fits,
         sum_goes (unit_code e) table frame place a loads e 1 (1 + length (sum_code e)) (has_front (unit_code e) 1 (sum_code e) end_code has_body) refl,
       )
 
@@ -82,7 +82,7 @@ module _ (e : Sum) (table : Table) (memory : List ℕ) (a : ℕ) (rest : List �
       let le : place + 8 ≤ length frame - 64 = omega (arith, size, room.low) in
       let b : place + 8 ≡ length memory - 64 + 4 * 0 = omega (arith, room.low) in
       let back = ap (load4 frame) b ∙ frame_word memory (a ∷ rest) 0 (2 ^ 32 - 1) (0 ∷ a ∷ rest) (omega (arith, room.low)) room.words n (omega arith) (omega arith) refl in
-      turn_is (unit_code e) table (instr Leave 8) last here ∙ left_returns (length (unit_code e)) 8 (value e a) last le back refl
+      step_is (unit_code e) table (instr Leave 8) last here ∙ left_returns (length (unit_code e)) 8 (value e a) last le back refl
 
   -- with more steps than these it returns
   pub call_returns : (m : ℕ) (rs : List Reply) → call_steps e < m → runs f m (started memory (a ∷ rest)) rs ≡ record { ending = Stopped (Returned (value e a)); events = []; state = last; left = rs }
@@ -103,19 +103,19 @@ values e calls = map (λ args. value e (slice_index args 0)) calls
 
 -- calls that have all returned these words, with no event
 abbrev HaveCome : List ℕ → CallsEnd → Type 0
-HaveCome words end = EndsWith end Came [] × (end.words ≡ words)
+HaveCome words end = EndsWith end AllReturned [] × (end.words ≡ words)
 
 come_after : (w : ℕ) (words : List ℕ) (end : CallsEnd) → HaveCome words end → HaveCome (w ∷ words) (with_calls (w ∷ []) [] end)
-come_after w words end (ends, are) = (record { coming_is = ends.coming_is; events_are = ends.events_are }, ap (λ ws. w ∷ ws) are)
+come_after w words end (ends, are) = (record { outcome_is = ends.outcome_is; events_are = ends.events_are }, ap (λ ws. w ∷ ws) are)
 
 -- with enough steps each call returns
 calls_come : (e : Sum) (table : Table) (m : ℕ) → call_steps e < m → (calls : List (List ℕ)) (memory : List ℕ) (rs : List Reply) → HasRoom memory → All IsCall calls →
-    HaveCome (values e calls) (calls_run (turn (unit_code e) table) m calls memory rs)
+    HaveCome (values e calls) (calls_run (step (unit_code e) table) m calls memory rs)
 calls_come e table m lt [] memory rs room all =
-    subst (λ (x : CallsEnd). HaveCome [] x) (sym (nothing_left (turn (unit_code e) table) m memory rs)) (record { coming_is = refl; events_are = refl }, refl)
+    subst (λ (x : CallsEnd). HaveCome [] x) (sym (nothing_left (step (unit_code e) table) m memory rs)) (record { outcome_is = refl; events_are = refl }, refl)
 calls_come e table m lt ([] ∷ calls) memory rs room all = let n = (all 0 [] (omega arith)).count in absurd (omega (arith, n))
 calls_come e table m lt ((a ∷ rest) ∷ calls) memory rs room all =
-    let f : State → Turn = turn (unit_code e) table in
+    let f : State → Step = step (unit_code e) table in
     let call = all 0 [] (omega arith) in
     let small : a < 2 ^ 32 = call.words 0 0 (omega arith) in
     let is = one_more f m (a ∷ rest) calls memory rs ∙ ap (λ (x : End). on_end x.ending x.events x.state x.left (λ u l. calls_run f m calls u l)) (call_returns e table memory a rest room call.count small m rs lt) in
@@ -124,16 +124,16 @@ calls_come e table m lt ((a ∷ rest) ∷ calls) memory rs room all =
 
 -- with too few the first call goes on
 calls_go_on : (e : Sum) (table : Table) (m : ℕ) → m ≤ call_steps e → (calls : List (List ℕ)) (memory : List ℕ) (rs : List Reply) → HasRoom memory → All IsCall calls → 0 < length calls →
-    EndsWith (calls_run (turn (unit_code e) table) m calls memory rs) (Ended Going) []
+    EndsWith (calls_run (step (unit_code e) table) m calls memory rs) (Ended Going) []
 calls_go_on e table m le [] memory rs room all some = absurd (omega arith)
 calls_go_on e table m le ([] ∷ calls) memory rs room all some = let n = (all 0 [] (omega arith)).count in absurd (omega (arith, n))
 calls_go_on e table m le ((a ∷ rest) ∷ calls) memory rs room all some =
-    let f : State → Turn = turn (unit_code e) table in
+    let f : State → Step = step (unit_code e) table in
     let call = all 0 [] (omega arith) in
     let small : a < 2 ^ 32 = call.words 0 0 (omega arith) in
     let going = call_goes_on e table memory a rest room call.count small m le in
     let is = one_more f m (a ∷ rest) calls memory rs ∙ ap (λ (x : End). on_end x.ending x.events x.state x.left (λ u l. calls_run f m calls u l)) (going.1 rs) in
-    record { coming_is = ap (λ (x : CallsEnd). x.coming) is; events_are = ap (λ (x : CallsEnd). x.events) is }
+    record { outcome_is = ap (λ (x : CallsEnd). x.outcome) is; events_are = ap (λ (x : CallsEnd). x.events) is }
 
 size_is : block_size 65540 ≡ 131072
 unfolding block_size doubled
@@ -153,12 +153,12 @@ enough e n =
 
 come_within : (words : List ℕ) (end : CallsEnd) → HaveCome words end → Within (Done words []) end
 come_within words end (ends, are) =
-    subst (λ c. EndsAs c end.words end.events (Done words [])) (sym ends.coming_is)
+    subst (λ c. EndsAs c end.words end.events (Done words [])) (sym ends.outcome_is)
     (ap (λ ws. Done ws []) (sym are) ∙ ap (λ es. Done end.words es) (sym ends.events_are))
 
 going_within : (words : List ℕ) (end : CallsEnd) → EndsWith end (Ended Going) [] → Within (Done words []) end
 going_within words end ends =
-    subst (λ c. EndsAs c end.words end.events (Done words [])) (sym ends.coming_is) ([], ap (λ (es : List Event). es ++ []) ends.events_are)
+    subst (λ c. EndsAs c end.words end.events (Done words [])) (sym ends.outcome_is) ([], ap (λ (es : List Event). es ++ []) ends.events_are)
 
 pub follows : (e : Sum) → Follows (sum_run e) (unit_image e)
 follows e = record {

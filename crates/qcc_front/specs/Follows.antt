@@ -5,7 +5,7 @@ use Rattle.qv_outside.specs.Event.{Event, Reply, IsReply}
 use Rattle.qv_outside.specs.Hosts.{Table}
 use Rattle.qv_image.specs.Image.{Qvm}
 use Rattle.vm_core.specs.Machine.{Going, Stopped, Asks as AsksFor}
-use Rattle.vm_core.specs.Calls.{CallsEnd, Coming, Came, Ended, image_run}
+use Rattle.vm_core.specs.Calls.{CallsEnd, CallsOutcome, AllReturned, Ended, image_run}
 use Rattle.vm_core.specs.declared.stop.Stop.TheVariants.{ModuleError as ErrorStop}
 use Rattle.qcc_front.specs.Source.{SourceEnd, SourceRun, Done, ModuleError, Asks, Going as GoesOn, TooDeep, Undefined}
 
@@ -18,13 +18,13 @@ abbrev pub IsPrefix : List Event → List Event → Type 0
 IsPrefix front whole = (rest : List Event) × (front ++ rest ≡ whole)
 
 -- the machine has made all calls, or has ended so, with these words and events
-pub record EndsWith (machine : CallsEnd) (coming : Coming) (events : List Event) : Type 0 where
-  pub coming_is : machine.coming ≡ coming
+pub record EndsWith (machine : CallsEnd) (outcome : CallsOutcome) (events : List Event) : Type 0 where
+  pub outcome_is : machine.outcome ≡ outcome
   pub events_are : machine.events ≡ events
 
 -- with steps enough for the program's turns, the machine ends as it does, or has come as far
 abbrev pub Reaches : SourceEnd → CallsEnd → Type 0
-Reaches (Done words events) machine = EndsWith machine Came events × (machine.words ≡ words)
+Reaches (Done words events) machine = EndsWith machine AllReturned events × (machine.words ≡ words)
 Reaches (ModuleError events) machine = EndsWith machine (Ended (Stopped ErrorStop)) events
 Reaches (Asks events) machine = EndsWith machine (Ended AsksFor) events
 Reaches (GoesOn events) machine = IsPrefix events machine.events
@@ -41,8 +41,8 @@ events_of (TooDeep events) = events
 events_of (Undefined rule events) = events
 
 -- the machine goes on within the program's events, or has ended as the program has
-abbrev pub EndsAs : Coming → List ℕ → List Event → SourceEnd → Type 0
-EndsAs Came words events source = source ≡ Done words events
+abbrev pub EndsAs : CallsOutcome → List ℕ → List Event → SourceEnd → Type 0
+EndsAs AllReturned words events source = source ≡ Done words events
 EndsAs (Ended Going) words events source = IsPrefix events (events_of source)
 EndsAs (Ended AsksFor) words events source = source ≡ Asks events
 EndsAs (Ended (Stopped stop)) words events source = (stop ≡ ErrorStop) × (source ≡ ModuleError events)
@@ -51,7 +51,7 @@ EndsAs (Ended (Stopped stop)) words events source = (stop ≡ ErrorStop) × (sou
 abbrev pub Within : SourceEnd → CallsEnd → Type 0
 Within (TooDeep events) machine = Unit {0}
 Within (Undefined rule events) machine = Unit {0}
-Within source machine = EndsAs machine.coming machine.words machine.events source
+Within source machine = EndsAs machine.outcome machine.words machine.events source
 
 -- For every table of traps, list of calls and list of replies: what the program does in n turns the
 -- machine does in I (n + 1) steps a call, where I is the count of its instructions; and what the machine

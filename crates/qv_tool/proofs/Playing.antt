@@ -8,8 +8,8 @@ use Rattle.qv_outside.specs.Event.{Event}
 use Rattle.qv_outside.specs.Hosts.{Table}
 use Rattle.vm_core.specs.declared.stop.Stop.{Stop}
 use Rattle.vm_core.specs.declared.stop.Stop.TheVariants.{Returned, Budget as StepsUsed}
-use Rattle.vm_core.specs.Machine.{Going, Stopped as HasStopped, Asks, turn, fresh_memory}
-use Rattle.vm_core.specs.Calls.{CallsEnd, Coming, Came, Ended, calls_run, image_run}
+use Rattle.vm_core.specs.Machine.{Going, Stopped as HasStopped, Asks, step, fresh_memory}
+use Rattle.vm_core.specs.Calls.{CallsEnd, CallsOutcome, AllReturned, Ended, calls_run, image_run}
 use Rattle.vm_core.proofs.QuietCalls.{calls_stay}
 use Rattle.qcc_front.specs.Follows.{IsCall, EndsAs, Follows, Reaches}
 use Rattle.qcc_front.specs.Source.{Done as ComesTo}
@@ -30,8 +30,8 @@ ok_tells end stop (Ok report) e says = tells end stop report e says
 ok_tells end stop (Err wanting) e says = tt
 
 -- calls that keep within a program that is done go on, or have returned its words
-told_by : (coming : Coming) (words values : List ℕ) (events : List Event) → EndsAs coming words events (ComesTo values []) → (last_stop coming words ≡ Returned (last_word values)) ⊎ (last_stop coming words ≡ StepsUsed)
-told_by Came words values events is = let same : words ≡ values = cc in inl (ap (λ ws. last_stop Came ws) same)
+told_by : (outcome : CallsOutcome) (words values : List ℕ) (events : List Event) → EndsAs outcome words events (ComesTo values []) → (last_stop outcome words ≡ Returned (last_word values)) ⊎ (last_stop outcome words ≡ StepsUsed)
+told_by AllReturned words values events is = let same : words ≡ values = cc in inl (ap (λ ws. last_stop AllReturned ws) same)
 told_by (Ended Going) words values events is = inr refl
 told_by (Ended Asks) words values events is = absurd cc
 told_by (Ended (HasStopped stop)) words values events is = let apart : ⊥ = (let p = is.1 in cc) in absurd apart
@@ -53,21 +53,21 @@ module _ (z : Qvm) (table : Table) (calls : List (List ℕ)) (n : ℕ) (e : Sum)
   reached : Reaches (ComesTo values []) short_run
   reached = follows.reaches table calls [] 0 all are.some (λ k d lt. absurd (omega (arith, lt)))
 
-  enough : 10000000 ≤ n → last_stop run.coming run.words ≡ Returned (last_word values)
+  enough : 10000000 ≤ n → last_stop run.outcome run.words ≡ Returned (last_word values)
   enough le =
       let more : n ≡ length z.code * (0 + 1) + (n - length z.code * (0 + 1)) = omega (arith, le, small) in
       let same : run ≡ short_run =
-      ap (λ k. calls_run (turn z.code table) k calls (fresh_memory z) []) more ∙ calls_stay (turn z.code table) (length z.code * (0 + 1)) (n - length z.code * (0 + 1)) calls (fresh_memory z) [] reached.0.coming_is in
-      ap (λ (x : CallsEnd). last_stop x.coming x.words) same ∙ ap (λ c. last_stop c short_run.words) reached.0.coming_is ∙ ap (λ ws. last_stop Came ws) reached.1
+      ap (λ k. calls_run (step z.code table) k calls (fresh_memory z) []) more ∙ calls_stay (step z.code table) (length z.code * (0 + 1)) (n - length z.code * (0 + 1)) calls (fresh_memory z) [] reached.0.outcome_is in
+      ap (λ (x : CallsEnd). last_stop x.outcome x.words) same ∙ ap (λ c. last_stop c short_run.words) reached.0.outcome_is ∙ ap (λ ws. last_stop AllReturned ws) reached.1
 
-  within : EndsAs run.coming run.words run.events (ComesTo values [])
+  within : EndsAs run.outcome run.words run.events (ComesTo values [])
   within = follows.within table calls [] n all are.some (λ k d lt. absurd (omega (arith, lt)))
 
-  told : (status : Status) (text : List ℕ) (stop : Stop) → Tells run status text → last_stop run.coming run.words ≡ stop → (status ≡ stop_status stop) × (text ≡ stop_line stop)
+  told : (status : Status) (text : List ℕ) (stop : Stop) → Tells run status text → last_stop run.outcome run.words ≡ stop → (status ≡ stop_status stop) × (text ≡ stop_line stop)
   told status text stop tells is = (tells.status_is ∙ ap stop_status is, tells.line_is ∙ ap stop_line is)
 
   value_told : (status : Status) (text : List ℕ) → Tells run status text → TellsValue e calls n status text
-  value_told status text tells = ⊎_elim (λ less. ⊎_elim (λ is. inl (told status text (Returned (last_word values)) tells is)) (λ is. let t = told status text StepsUsed tells is in inr (t.0, t.1, less)) (told_by run.coming run.words values run.events within))
+  value_told status text tells = ⊎_elim (λ less. ⊎_elim (λ is. inl (told status text (Returned (last_word values)) tells is)) (λ is. let t = told status text StepsUsed tells is in inr (t.0, t.1, less)) (told_by run.outcome run.words values run.events within))
       (λ le. inl (told status text (Returned (last_word values)) tells (enough le))) (cases_lt n 10000000)
 
   pub ok_value : (result : Result Report NoMemory) → IfOk result (λ report. Tells run report.status report.line.items) → IfOk result (λ report. TellsValue e calls n report.status report.line.items)

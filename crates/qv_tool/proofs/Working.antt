@@ -74,7 +74,7 @@ stop_is_end StepsUsed = tt
 stop_is_end stop = tt
 
 told_is_end : (end : CallsEnd) (status : Status) (text : List ℕ) → Tells end status text → IsEnd status
-told_is_end end status text tells = subst IsEnd (sym tells.status_is) (stop_is_end (last_stop end.coming end.words))
+told_is_end end status text tells = subst IsEnd (sym tells.status_is) (stop_is_end (last_stop end.outcome end.words))
 
 module _ (table : Table) (c : Option Command) where
   -- a report that says what is reported

@@ -3,7 +3,7 @@ use Rattle.std.specs.Prelude.{◌≡◌, ℕ, List, [], ◌∷◌, ◌++◌, cod
 use Rattle.std.specs.Fmt.{decimal, signed_decimal}
 use Rattle.std.specs.Int.{cast_signed, w32}
 use Rattle.vm_core.specs.Machine.{Going, Stopped as HasStopped, Asks}
-use Rattle.vm_core.specs.Calls.{Coming, Came, Ended, CallsEnd}
+use Rattle.vm_core.specs.Calls.{CallsOutcome, AllReturned, Ended, CallsEnd}
 use Rattle.vm_core.specs.declared.stop.Stop.{Stop}
 use Rattle.vm_core.specs.declared.stop.Stop.TheVariants.{Returned, Budget as StepsUsed, ModuleError, OperandOver, OperandUnder, StackOver, StackUnder, JumpOut, FellOff, DivideZero, DivideOver, CopyRange, UnknownTrap, TrapRange, HostFault, OutFault}
 use Rattle.qv_tool.specs.declared.status.Status.{Status}
@@ -55,17 +55,17 @@ last_word (w ∷ []) = w
 last_word (w ∷ v ∷ ws) = last_word (v ∷ ws)
 
 -- the stop that ended the calls: all returned, or one ended so
-abbrev pub last_stop : Coming → List ℕ → Stop
-last_stop Came words = Returned (last_word words)
+abbrev pub last_stop : CallsOutcome → List ℕ → Stop
+last_stop AllReturned words = Returned (last_word words)
 last_stop (Ended Going) words = StepsUsed
 last_stop (Ended (HasStopped stop)) words = stop
 last_stop (Ended Asks) words = HostFault
 
 -- the calls ended by this stop
 abbrev pub EndsBy : CallsEnd → Stop → Type 0
-EndsBy end stop = last_stop end.coming end.words ≡ stop
+EndsBy end stop = last_stop end.outcome end.words ≡ stop
 
 -- the status and the line tell how the calls ended
 pub record Tells (end : CallsEnd) (status : Status) (text : List ℕ) : Type 0 where
-  pub status_is : status ≡ stop_status (last_stop end.coming end.words)
-  pub line_is : text ≡ stop_line (last_stop end.coming end.words)
+  pub status_is : status ≡ stop_status (last_stop end.outcome end.words)
+  pub line_is : text ≡ stop_line (last_stop end.outcome end.words)

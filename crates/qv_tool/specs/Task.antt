@@ -2,7 +2,7 @@
 use Rattle.std.specs.Prelude.{ℕ, List, [], ◌∷◌, ◌++◌, codes, Option, Some, None, option_map}
 use denote.Ref.{Bor}
 use Rattle.qv_words.specs.Names.{stem_of}
-use Rattle.qv_words.specs.Words.{Command, Qcc, Q3asm, Qdis, Qrun, Qall}
+use Rattle.qv_words.specs.Words.{Command, BuildArgs, Qcc, Q3asm, Qdis, Qrun, Qall}
 
 pub data Task : Type 0 where
   -- compile a unit: the folder of its text, the unit
@@ -23,15 +23,23 @@ abbrev pub plain_unit : List (List ℕ) → List (List ℕ × List ℕ) → Opti
 plain_unit [] [] None (unit ∷ []) = Some unit
 plain_unit dirs defs binds units = None
 
+-- link the files, or those that a list names
+abbrev pub link_task : List ℕ → List (List ℕ) → Option (List ℕ) → Task
+link_task image files None = Assemble image files
+link_task image files (Some list) = AssembleList image list
+
+-- build a program that isn't made from a seed
+abbrev pub build_task : BuildArgs → Option (ℕ × ℕ) → Option Task
+build_task args None = option_map (Build args.steps args.calls args.image) (plain_unit args.dirs args.defs args.binds args.units)
+build_task args (Some seed_size) = None
+
 -- what the command asks for, where its form is served
 abbrev pub task_of : Command → Option Task
-task_of (Qcc dirs defs binds folder units) = option_map (Compile folder) (plain_unit dirs defs binds units)
-task_of (Q3asm image files None) = Some (Assemble image files)
-task_of (Q3asm image files (Some list)) = Some (AssembleList image list)
-task_of (Qdis image file) = Some (Disassemble image file)
-task_of (Qrun steps calls image) = Some (Run steps calls image)
-task_of (Qall dirs defs binds None steps calls image units) = option_map (Build steps calls image) (plain_unit dirs defs binds units)
-task_of (Qall dirs defs binds (Some seed_size) steps calls image units) = None
+task_of (Qcc args) = option_map (Compile args.folder) (plain_unit args.dirs args.defs args.binds args.units)
+task_of (Q3asm args) = Some (link_task args.image args.files args.list)
+task_of (Qdis args) = Some (Disassemble args.image args.file)
+task_of (Qrun args) = Some (Run args.steps args.calls args.image)
+task_of (Qall args) = build_task args args.seed_size
 
 -- the text of a unit stands in the folder under the unit's stem
 abbrev pub text_name : List ℕ → List ℕ → List ℕ

@@ -2,7 +2,7 @@
 ghost use Rattle.std.specs.Prelude.{◌≡◌, [], IfOk};
 ghost use Rattle.qv_image.specs.Shown.{qvm_of};
 ghost use Rattle.vm_core.specs.Calls.{calls_run, image_run};
-ghost use Rattle.vm_core.specs.Machine.{turn};
+ghost use Rattle.vm_core.specs.Machine.{step};
 ghost use Rattle.vm_core.specs.Module.{code_of, state_of};
 ghost use Rattle.qv_tool.specs.Ending.{EndsBy, Tells};
 
@@ -47,7 +47,7 @@ fn make_calls<H: Host, O: Sink>(
     host: &mut H,
     out: &mut O,
 ) -> Stop
-    ensures stop { EndsBy (calls_run (turn (code_of machine.old) (H.table host.old)) steps calls.now (state_of machine.old).memory []) result }
+    ensures stop { EndsBy (calls_run (step (code_of machine.old) (H.table host.old)) steps calls.now (state_of machine.old).memory []) result }
     ensures out_quiet { O.written out.new ≡ O.written out.old }
     ensures host_asked { H.asked host.new ≡ H.asked host.old }
     ensures host_replied { H.replied host.new ≡ H.replied host.old }

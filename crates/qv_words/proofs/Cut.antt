@@ -48,17 +48,17 @@ module _ (text : List ℕ) (i : ℕ) where
 
 -- constants
 
-constant_length-nil : (quote : ℕ) → constant_length quote [] ≡ None
+pub constant_length-nil : (quote : ℕ) → constant_length quote [] ≡ None
 unfolding constant_length
 constant_length-nil quote = refl
 
-constant_ends : (quote b : ℕ) (bs : List ℕ) → (b == quote) ≡ true → constant_length quote (b ∷ bs) ≡ Some 1
+pub constant_ends : (quote b : ℕ) (bs : List ℕ) → (b == quote) ≡ true → constant_length quote (b ∷ bs) ≡ Some 1
 unfolding constant_length
 constant_ends quote b [] is = ap (λ k. if k then Some 1 else None) is
 constant_ends quote b (c ∷ bs) is =
     ap (λ k. if k then Some 1 else (if b == 92 then option_map (λ n. 2 + n) (constant_length quote bs) else option_map (λ n. 1 + n) (constant_length quote (c ∷ bs)))) is
 
-constant_more : (quote b : ℕ) (k : Bool) (bs : List ℕ) → (b == 92) ≡ k → (b == quote) ≡ false →
+pub constant_more : (quote b : ℕ) (k : Bool) (bs : List ℕ) → (b == 92) ≡ k → (b == quote) ≡ false →
     option_map (λ n. (if k then 2 else 1) + n) (constant_length quote (drop (if k then 2 else 1) (b ∷ bs))) ≡ constant_length quote (b ∷ bs)
 unfolding constant_length
 constant_more quote b true [] is other = sym (ap (λ j. if j then Some 1 else None) other)

@@ -1,37 +1,33 @@
 -- A macro takes the place of an earlier one of its name, or stands last.
-use Rattle.std.proofs.Common.{◌≡◌, ℕ, suc, ◌+◌, ◌<◌, ◌≤◌, Bool, true, false, not, ◌||◌, cond, List, [], ◌∷◌, ◌++◌, length, set, refl, sym, ap, ◌∙◌, arith}
+use Rattle.std.proofs.Common.{◌≡◌, ℕ, suc, ◌+◌, Bool, true, false, not, ◌||◌, cond, List, [], ◌∷◌, length, map, string_bytes, String, refl, sym, ap, ◌∙◌, arith}
 use Rattle.std.specs.Prelude.{if◌then◌else◌}
+use Rattle.std.specs.declared.alloc.Global.{Global}
 use Rattle.std.specs.List.{list_any, position_or_len}
 use Rattle.std.specs.Str.{bytes_eq}
+use Rattle.std.specs.String.{string_eq}
+use Rattle.std.proofs.lemmas.Cmp.{nat_list_eq_equiv}
+use Rattle.std.proofs.lemmas.Slice.Eq.{bytes_eq-Decides}
+use Rattle.indexmap.specs.IndexMap.{insert_entry}
 use Rattle.qv_words.specs.Define.{with_definition}
+use Rattle.qv_words.specs.Shown.{define_shown}
 
 abbrev pub Pair : Type 0
 Pair = List ℕ × List ℕ
 
--- the place of the first macro of a name
-abbrev pub place : List ℕ → List Pair → ℕ
-place name defs = position_or_len (λ d. bytes_eq d.0 name) defs
+-- the macros of a map, one more of which is inserted
+module _ (name text : String Global) where
+  inserted_step : (k : Bool) (e : String Global × String Global) (es : List (String Global × String Global)) → bytes_eq (string_bytes name) (string_bytes e.0) ≡ k →
+      map define_shown (insert_entry string_eq es name text) ≡ with_definition (string_bytes name, string_bytes text) (map define_shown es) →
+      map define_shown (if k then (e.0, text) ∷ es else e ∷ insert_entry string_eq es name text)
+      ≡ (if k then (string_bytes name, string_bytes text) ∷ map define_shown es else define_shown e ∷ with_definition (string_bytes name, string_bytes text) (map define_shown es))
+  inserted_step true e es is rest = ap (λ n. (n, string_bytes text) ∷ map define_shown es) (sym ((bytes_eq-Decides (string_bytes name) (string_bytes e.0)).0 is))
+  inserted_step false e es is rest = ap (λ l. define_shown e ∷ l) rest
 
-replaced_step : (k : Bool) (d e : Pair) (es : List Pair) (n : ℕ) → (n < length es → with_definition d es ≡ set es n d) → cond (not k) (1 + n) 0 < length (e ∷ es) →
-    (if k then d ∷ es else e ∷ with_definition d es) ≡ set (e ∷ es) (cond (not k) (1 + n) 0) d
-replaced_step true d e es n rest lt = refl
-replaced_step false d e es n rest lt =
-    let more : n < length es = omega arith in
-    let same : 1 + n ≡ suc n = omega arith in
-    ap (λ l. e ∷ l) (rest more) ∙ sym (ap (λ m. set (e ∷ es) m d) same)
-
-pub replaced : (d : Pair) (defs : List Pair) → place d.0 defs < length defs → with_definition d defs ≡ set defs (place d.0 defs) d
-replaced d [] lt = absurd (omega arith)
-replaced d (e ∷ es) lt = replaced_step (bytes_eq e.0 d.0) d e es (place d.0 es) (replaced d es) lt
-
-added_step : (k : Bool) (d e : Pair) (es : List Pair) (n : ℕ) → (length es ≤ n → with_definition d es ≡ es ++ d ∷ []) → length (e ∷ es) ≤ cond (not k) (1 + n) 0 →
-    (if k then d ∷ es else e ∷ with_definition d es) ≡ e ∷ es ++ d ∷ []
-added_step true d e es n rest le = absurd (omega arith)
-added_step false d e es n rest le = let more : length es ≤ n = omega arith in ap (λ l. e ∷ l) (rest more)
-
-pub added : (d : Pair) (defs : List Pair) → length defs ≤ place d.0 defs → with_definition d defs ≡ defs ++ d ∷ []
-added d [] le = refl
-added d (e ∷ es) le = added_step (bytes_eq e.0 d.0) d e es (place d.0 es) (added d es) le
+  pub inserted : (es : List (String Global × String Global)) → map define_shown (insert_entry string_eq es name text) ≡ with_definition (string_bytes name, string_bytes text) (map define_shown es)
+  inserted [] = refl
+  inserted (e ∷ es) =
+      inserted_step (bytes_eq (string_bytes name) (string_bytes e.0)) e es refl (inserted es)
+      ∙ ap (λ k. if k then (string_bytes name, string_bytes text) ∷ map define_shown es else define_shown e ∷ with_definition (string_bytes name, string_bytes text) (map define_shown es)) (nat_list_eq_equiv.symm (string_bytes name) (string_bytes e.0))
 
 lacking_step : (k a : Bool) (n m : ℕ) → (n ≡ m → a ≡ false) → cond (not k) (1 + n) 0 ≡ 1 + m → (k || a) ≡ false
 lacking_step true a n m rest e = absurd (omega arith)

@@ -1,47 +1,48 @@
 -- Options and names behind a place.
 use Rattle.std.proofs.Common.{◌≡◌, ℕ, ◌+◌, ◌<◌, ◌≤◌, Bool, true, false, ◌&&◌, List, [], ◌∷◌, length, get_or, drop, map, Option, Some, None, refl, sym, ap, ◌∙◌}
-use Rattle.std.specs.Prelude.{option_and_then, if◌then◌else◌, codes}
+use Rattle.std.specs.Prelude.{is_some, option_and_then, if◌then◌else◌, codes}
 use Rattle.std.specs.Str.{bytes_eq}
 use Rattle.std.proofs.lemmas.List.{drop_more, drop_all}
 use Rattle.qv_words.specs.declared.verb.Verb.{Verb}
+use Rattle.qv_words.specs.declared.verb.Switch.TheVariants.{NextCall}
 use Rattle.qv_words.specs.Names.{begins_with_dash}
-use Rattle.qv_words.specs.Words.{Options, Command, is_next, with_next, with_option, command_with, read_from}
+use Rattle.qv_words.specs.Words.{Options, Command, switch_of, is_switch, with_switch, with_option, command_with, read_from}
 
-no_next : (word : List ℕ) → begins_with_dash word ≡ false → is_next word ≡ false
-no_next [] plain = refl
-no_next (b ∷ bs) plain = ap (λ k. k && bytes_eq bs (codes "c")) plain
+no_switch : (word : List ℕ) → begins_with_dash word ≡ false → is_switch word ≡ false
+no_switch [] plain = refl
+no_switch (b ∷ bs) plain = ap (λ k. is_some (if k && bytes_eq bs (codes "c") then Some NextCall else None)) plain
 
 module _ (verb : Verb) (o : Options) where
-  -- `-c`
-  pub next_read : (word : List ℕ) (words : List (List ℕ)) → is_next word ≡ true → read_from verb (word ∷ words) o ≡ option_and_then (read_from verb words) (with_next verb o)
+  -- a switch
+  pub switch_read : (word : List ℕ) (words : List (List ℕ)) → is_switch word ≡ true → read_from verb (word ∷ words) o ≡ option_and_then (read_from verb words) (with_switch verb o word)
   unfolding read_from
-  next_read word [] is =
-      ap (λ k. if k then option_and_then (read_from verb []) (with_next verb o) else (if begins_with_dash word then None else command_with verb o (word ∷ []))) is
-  next_read word (value ∷ words) is =
-      ap (λ k. if k then option_and_then (read_from verb (value ∷ words)) (with_next verb o) else (if begins_with_dash word then option_and_then (read_from verb words) (with_option verb o word value) else command_with verb o (word ∷ value ∷ words))) is
+  switch_read word [] is =
+      ap (λ k. if k then option_and_then (read_from verb []) (with_switch verb o word) else (if begins_with_dash word then None else command_with verb o (word ∷ []))) is
+  switch_read word (value ∷ words) is =
+      ap (λ k. if k then option_and_then (read_from verb (value ∷ words)) (with_switch verb o word) else (if begins_with_dash word then option_and_then (read_from verb words) (with_option verb o word value) else command_with verb o (word ∷ value ∷ words))) is
 
   -- an option and its value
-  pub option_read : (word value : List ℕ) (words : List (List ℕ)) → is_next word ≡ false → begins_with_dash word ≡ true → read_from verb (word ∷ value ∷ words) o ≡ option_and_then (read_from verb words) (with_option verb o word value)
+  pub option_read : (word value : List ℕ) (words : List (List ℕ)) → is_switch word ≡ false → begins_with_dash word ≡ true → read_from verb (word ∷ value ∷ words) o ≡ option_and_then (read_from verb words) (with_option verb o word value)
   unfolding read_from
   option_read word value words other dash =
-      ap (λ k. if k then option_and_then (read_from verb (value ∷ words)) (with_next verb o) else (if begins_with_dash word then option_and_then (read_from verb words) (with_option verb o word value) else command_with verb o (word ∷ value ∷ words))) other
+      ap (λ k. if k then option_and_then (read_from verb (value ∷ words)) (with_switch verb o word) else (if begins_with_dash word then option_and_then (read_from verb words) (with_option verb o word value) else command_with verb o (word ∷ value ∷ words))) other
       ∙ ap (λ k. if k then option_and_then (read_from verb words) (with_option verb o word value) else command_with verb o (word ∷ value ∷ words)) dash
 
   -- an option whose value is missing
-  pub missing_read : (word : List ℕ) → is_next word ≡ false → begins_with_dash word ≡ true → read_from verb (word ∷ []) o ≡ None
+  pub missing_read : (word : List ℕ) → is_switch word ≡ false → begins_with_dash word ≡ true → read_from verb (word ∷ []) o ≡ None
   unfolding read_from
   missing_read word other dash =
-      ap (λ k. if k then option_and_then (read_from verb []) (with_next verb o) else (if begins_with_dash word then None else command_with verb o (word ∷ []))) other
+      ap (λ k. if k then option_and_then (read_from verb []) (with_switch verb o word) else (if begins_with_dash word then None else command_with verb o (word ∷ []))) other
       ∙ ap (λ k. if k then None else command_with verb o (word ∷ [])) dash
 
   -- names
   pub names_read : (word : List ℕ) (words : List (List ℕ)) → begins_with_dash word ≡ false → read_from verb (word ∷ words) o ≡ command_with verb o (word ∷ words)
   unfolding read_from
   names_read word [] plain =
-      ap (λ k. if k then option_and_then (read_from verb []) (with_next verb o) else (if begins_with_dash word then None else command_with verb o (word ∷ []))) (no_next word plain)
+      ap (λ k. if k then option_and_then (read_from verb []) (with_switch verb o word) else (if begins_with_dash word then None else command_with verb o (word ∷ []))) (no_switch word plain)
       ∙ ap (λ k. if k then None else command_with verb o (word ∷ [])) plain
   names_read word (value ∷ words) plain =
-      ap (λ k. if k then option_and_then (read_from verb (value ∷ words)) (with_next verb o) else (if begins_with_dash word then option_and_then (read_from verb words) (with_option verb o word value) else command_with verb o (word ∷ value ∷ words))) (no_next word plain)
+      ap (λ k. if k then option_and_then (read_from verb (value ∷ words)) (with_switch verb o word) else (if begins_with_dash word then option_and_then (read_from verb words) (with_option verb o word value) else command_with verb o (word ∷ value ∷ words))) (no_switch word plain)
       ∙ ap (λ k. if k then option_and_then (read_from verb words) (with_option verb o word value) else command_with verb o (word ∷ value ∷ words)) plain
 
   pub no_names : read_from verb [] o ≡ command_with verb o []

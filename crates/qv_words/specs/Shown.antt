@@ -12,30 +12,50 @@ abbrev pub define_shown : String Global × String Global → List ℕ × List �
 define_shown d = (string_bytes d.0, string_bytes d.1)
 
 abbrev pub command_shown : ReadCommand → Command
-command_shown (ReadQcc dirs defs binds folder units) = Qcc (map string_bytes dirs.items) (map define_shown defs.items) (option_map string_bytes binds) (string_bytes folder) (map string_bytes units.items)
-command_shown (ReadQ3asm image files list) = Q3asm (string_bytes image) (map string_bytes files.items) (option_map string_bytes list)
-command_shown (ReadQdis image file) = Qdis (string_bytes image) (string_bytes file)
-command_shown (ReadQrun steps calls image) = Qrun steps calls.items (string_bytes image)
-command_shown (ReadQall dirs defs binds seed_size steps calls image units) = Qall (map string_bytes dirs.items) (map define_shown defs.items) (option_map string_bytes binds) seed_size steps calls.items (string_bytes image) (map string_bytes units.items)
+command_shown (ReadQcc dirs defs binds folder units) =
+    Qcc (record {
+      dirs = map string_bytes dirs.items;
+      defs = map define_shown defs.items;
+      binds = option_map string_bytes binds;
+      folder = string_bytes folder;
+      units = map string_bytes units.items;
+    })
+command_shown (ReadQ3asm image files list) = Q3asm (record { image = string_bytes image; files = map string_bytes files.items; list = option_map string_bytes list })
+command_shown (ReadQdis image file) = Qdis (record { image = string_bytes image; file = string_bytes file })
+command_shown (ReadQrun steps calls image) = Qrun (record { steps = steps; calls = calls.items; image = string_bytes image })
+command_shown (ReadQall dirs defs binds seed_size steps calls image units) =
+    Qall (record {
+      dirs = map string_bytes dirs.items;
+      defs = map define_shown defs.items;
+      binds = option_map string_bytes binds;
+      seed_size = seed_size;
+      steps = steps;
+      calls = calls.items;
+      image = string_bytes image;
+      units = map string_bytes units.items;
+    })
 
 abbrev pub options_shown : ReadOptions → Options
 options_shown o = record {
   dirs = map string_bytes o.dirs.items;
-  defs = map define_shown o.defs.items;
+  defs = map define_shown o.defs.entries;
   binds = option_map string_bytes o.binds;
   folder = option_map string_bytes o.folder;
   image = option_map string_bytes o.image;
   list = option_map string_bytes o.list;
   seed_size = o.seed_size;
   steps = o.steps;
-  ended = o.calls.ended.items;
-  args = take o.calls.count o.calls.words;
+  earlier_calls = o.calls.earlier.items;
+  last_call = take o.calls.count o.calls.last;
 }
 
 -- a command that links files names at most 4,096; one that calls vmMain has 1 to 4,096 calls, each of 14 words
 -- below 2 ^ 32
+abbrev pub IsWithinLimits : Command → Type 0
+IsWithinLimits (Q3asm args) = length args.files ≤ 4096
+IsWithinLimits (Qrun args) = AreCalls args.calls
+IsWithinLimits (Qall args) = AreCalls args.calls
+IsWithinLimits command = Unit {0}
+
 abbrev pub KeepsLimits : ReadCommand → Type 0
-KeepsLimits (ReadQ3asm image files list) = length files.items ≤ 4096
-KeepsLimits (ReadQrun steps calls image) = AreCalls calls.items
-KeepsLimits (ReadQall dirs defs binds seed_size steps calls image units) = AreCalls calls.items
-KeepsLimits command = Unit {0}
+KeepsLimits command = IsWithinLimits (command_shown command)

@@ -1,7 +1,8 @@
 -- How the text of a definition is cut, and which texts a definition may have.
-use Rattle.std.specs.Prelude.{ℕ, ◌+◌, ◌-◌, zero, suc, Bool, true, false, ◌&&◌, ◌||◌, ◌==◌, not, List, [], ◌∷◌, length, drop, Option, Some, None, option_map, option_and_then, unwrap_or, slice_get, if◌then◌else◌}
+use Rattle.std.specs.Prelude.{◌≡◌, IsTrue, ℕ, ◌+◌, ◌-◌, zero, suc, Bool, true, false, ◌&&◌, ◌||◌, ◌==◌, not, List, [], ◌∷◌, length, drop, Option, Some, None, option_map, option_and_then, unwrap_or, slice_get, if◌then◌else◌}
 use Rattle.std.specs.List.{list_any}
 use Rattle.qv_words.specs.declared.text.Piece.{Piece}
+use Rattle.qv_words.specs.declared.text.Unclosed.{Unclosed}
 use Rattle.qv_words.specs.declared.text.Token.{Token}
 use Rattle.qv_words.specs.declared.text.Token.TheVariants.{Paste, Other}
 
@@ -28,6 +29,15 @@ constant_length quote [] = None
 constant_length quote (b ∷ []) = if b == quote then Some 1 else None
 constant_length quote (b ∷ c ∷ bs) =
     if b == quote then Some 1 else (if b == 92 then option_map (λ n. 2 + n) (constant_length quote bs) else option_map (λ n. 1 + n) (constant_length quote (c ∷ bs)))
+
+-- whether constants of this quote are known to have no end
+abbrev pub is_unclosed : Unclosed → ℕ → Bool
+is_unclosed unclosed quote = (quote == 34 && unclosed.double) || (quote == 39 && unclosed.single)
+
+-- and they have none, wherever in the text they begin
+abbrev pub AreUnclosed : Unclosed → List ℕ → Type 0
+AreUnclosed unclosed [] = Unit {0}
+AreUnclosed unclosed (b ∷ bs) = (IsTrue (is_unclosed unclosed b) → constant_length b bs ≡ None) × AreUnclosed unclosed bs
 
 -- pieces of n bytes; a blank and a comment are no token
 abbrev pub blank_piece : ℕ → Piece

@@ -3,18 +3,18 @@ ghost use Rattle.std.specs.Prelude.{◌≡◌, ◌-◌, ◌≤◌, IsTrue, drop,
 ghost use Rattle.std.specs.List.{list_all};
 ghost use Rattle.qv_words.specs.Calls.{is_call};
 
-/// The calls whose words are ended, and the words of the last one.
+/// The words of the calls read so far.
 #[derive(Debug, Drop)]
 pub struct Calls {
-    /// The words of the calls that are ended.
-    pub ended: Vec<[u32; 14]>,
+    /// The words of the calls before the last one.
+    pub earlier: Vec<[u32; 14]>,
     /// The words of the last call, and zeros behind them.
-    pub words: [u32; 14],
+    pub last: [u32; 14],
     /// How many words of the last call were given.
     pub count: usize,
-    ghost few: { length ended.items ≤ 4095 },
-    ghost whole: { IsTrue (list_all is_call ended.items) },
+    ghost at_most: { length earlier.items ≤ 4095 },
+    ghost are_calls: { IsTrue (list_all is_call earlier.items) },
     ghost within: { count ≤ 14 },
-    ghost zeros: { drop count words ≡ replicate (14 - count) 0 },
-    ghost last: { IsTrue (is_call words) },
+    ghost zeros: { drop count last ≡ replicate (14 - count) 0 },
+    ghost is_last: { IsTrue (is_call last) },
 }

@@ -1,11 +1,12 @@
 //! Definitions of macros: `name=text`, or `name` for `name=1`.
 ghost use Rattle.std.specs.Prelude.{◌≡◌, IfOk, OnOk, map, option_map, string_bytes};
-ghost use Rattle.std.specs.List.{list_all, list_any, position_or_len};
+ghost use Rattle.std.specs.List.{list_all, list_any};
 ghost use Rattle.std.specs.Str.{bytes_eq};
 ghost use Rattle.qv_words.specs.Define.{is_identifier_byte, is_identifier, is_macro_name, reserved, defined_as, definition_of, with_definition};
 ghost use Rattle.qv_words.specs.Shown.{define_shown};
 
 use crate::text::is_definition_text;
+use indexmap::IndexMap;
 use qv_base::NoMemory;
 use qv_base::decimal::is_digit;
 use std::alloc::Global;
@@ -90,26 +91,13 @@ fn is_identifier_byte(byte: u8) -> bool
 /// # Errors
 ///
 /// NoMemory where memory for it is refused.
-pub fn define(defs: &mut Vec<(String, String)>, d: (String, String)) -> Result<(), NoMemory>
-    ensures { OnOk result (map define_shown defs.new.items ≡ with_definition (define_shown d) (map define_shown defs.old.items)) }
+pub fn define(
+    defs: &mut IndexMap<String, String>,
+    name: String,
+    text: String,
+) -> Result<(), NoMemory>
+    ensures { OnOk result (map define_shown defs.new.entries ≡ with_definition (string_bytes name, string_bytes text) (map define_shown defs.old.entries)) }
 {
-    let at = place_of(defs, d.0.as_str());
-    if at < defs.len() {
-        defs[at] = d;
-    } else {
-        defs.push(d)?;
-    }
+    defs.insert(name, text)?;
     Ok(())
-}
-
-// The place of the first macro of this name, or the number of macros where there is none.
-fn place_of(defs: &[(String, String)], name: &str) -> usize
-    ensures { result ≡ position_or_len (λ d. bytes_eq d.0 name.now) (map define_shown defs.now) }
-{
-    for (i, earlier) in defs.iter().enumerate() {
-        if earlier.0.as_str() == name {
-            return i;
-        }
-    }
-    defs.len()
 }

@@ -1,20 +1,18 @@
 //! The command of options and the names behind them.
-ghost use Rattle.std.specs.Prelude.{◌≡◌, ◌∷◌, ◌++◌, [], IfOk, IfSome, length, map, option_map, option_and_then, string_bytes};
+ghost use Rattle.std.specs.Prelude.{◌≡◌, ◌∷◌, ◌++◌, [], IfOk, IfSome, length, take, map, option_map, option_and_then, unwrap_or, string_bytes};
 ghost use Rattle.qv_words.specs.Calls.{AreCalls};
-ghost use Rattle.qv_words.specs.Words.{command_with, compiles, assembles, disassembles, only_name, runs, builds, generates, calls_in, steps_in, all_of};
+ghost use Rattle.qv_words.specs.Words.{command_with, compiles, assembles, disassembles, only_name, runs, builds, generates, padded, calls_in, steps_in, default_steps, all_of};
 ghost use Rattle.qv_words.specs.Shown.{command_shown, options_shown, KeepsLimits};
 
 use crate::calls::Calls;
 use crate::command::Command;
 use crate::names::{are_files, are_units, have_distinct_stems, is_name};
 use crate::options::Options;
-use crate::verb::Verb;
+use crate::verb::{Verb, default_steps};
+use indexmap::IndexMap;
 use qv_base::NoMemory;
 use qv_base::limits::CALL_WORDS;
 use std::alloc::Global;
-
-/// The most steps of a call where the words say nothing.
-pub const DEFAULT_STEPS: u64 = 10_000_000;
 
 /// The command of the options and the names behind them. None where an option is missing that has to be
 /// there, or the names aren't the command's.
@@ -45,7 +43,7 @@ fn compile(alloc: Global, options: Options, names: &[String]) -> Result<Option<C
     ensures reading { IfOk result (λ c. option_map command_shown c ≡ compiles (options_shown options) (map string_bytes names.now)) }
     ensures limits { IfOk result (λ c. IfSome c KeepsLimits) }
 {
-    if !are_units(names) || !have_distinct_stems(names) {
+    if !are_units(names) || !have_distinct_stems(alloc, names)? {
         return Ok(None);
     }
     let units = copied(alloc, names)?;
@@ -59,6 +57,7 @@ fn compile(alloc: Global, options: Options, names: &[String]) -> Result<Option<C
     let Some(folder) = folder else {
         return Ok(None);
     };
+    let defs = macros(alloc, defs)?;
     Ok(Some(Command::Qcc {
         dirs,
         defs,
@@ -123,7 +122,7 @@ fn run(options: Options, names: &[String]) -> Result<Option<Command>, NoMemory>
     let Some(image) = only_name(names)? else {
         return Ok(None);
     };
-    let steps = options.steps.unwrap_or(DEFAULT_STEPS);
+    let steps = steps_in(Verb::Run, options.steps);
     let calls = all_calls(options.calls)?;
     Ok(Some(Command::Qrun {
         steps,
@@ -154,7 +153,7 @@ fn build(alloc: Global, options: Options, names: &[String]) -> Result<Option<Com
         return Ok(None);
     }
     let units = copied(alloc, names)?;
-    all_of(options, units)
+    all_of(alloc, Verb::Build, options, units)
 }
 
 fn generate(alloc: Global, options: Options, names: &[String]) -> Result<Option<Command>, NoMemory>
@@ -164,12 +163,17 @@ fn generate(alloc: Global, options: Options, names: &[String]) -> Result<Option<
     if !names.is_empty() {
         return Ok(None);
     }
-    all_of(options, Vec::new(alloc))
+    all_of(alloc, Verb::Generate, options, Vec::new(alloc))
 }
 
 // The command `qall` of the options and the units. None where the image is missing.
-fn all_of(options: Options, units: Vec<String>) -> Result<Option<Command>, NoMemory>
-    ensures reading { IfOk result (λ c. option_map command_shown c ≡ all_of (options_shown options) (map string_bytes units.items)) }
+fn all_of(
+    alloc: Global,
+    verb: Verb,
+    options: Options,
+    units: Vec<String>,
+) -> Result<Option<Command>, NoMemory>
+    ensures reading { IfOk result (λ c. option_map command_shown c ≡ all_of verb (options_shown options) (map string_bytes units.items)) }
     ensures limits { IfOk result (λ c. IfSome c KeepsLimits) }
 {
     let Options {
@@ -186,30 +190,49 @@ fn all_of(options: Options, units: Vec<String>) -> Result<Option<Command>, NoMem
         return Ok(None);
     };
     let calls = all_calls(calls)?;
+    let defs = macros(alloc, defs)?;
     Ok(Some(Command::Qall {
         dirs,
         defs,
         binds,
         seed_size,
-        steps: steps.unwrap_or(DEFAULT_STEPS),
+        steps: steps_in(verb, steps),
         calls,
         image,
         units,
     }))
 }
 
+// The most steps of each call, where these were given.
+fn steps_in(verb: Verb, given: Option<u64>) -> u64
+    ensures { result ≡ unwrap_or given (default_steps verb) }
+{
+    given.unwrap_or(default_steps(verb))
+}
+
+// The macros, each with its text, in order.
+fn macros(
+    alloc: Global,
+    defs: IndexMap<String, String>,
+) -> Result<Vec<(String, String)>, NoMemory>
+    ensures { IfOk result (λ all. all.items ≡ defs.entries) }
+{
+    let all = defs.into_iter().collect(alloc)?;
+    Ok(all)
+}
+
 // The words of all calls, the last one among them.
 fn all_calls(calls: Calls) -> Result<Vec<[u32; CALL_WORDS]>, NoMemory>
-    ensures all { IfOk result (λ all. all.items ≡ calls.ended.items ++ calls.words ∷ []) }
+    ensures all { IfOk result (λ all. all.items ≡ calls.earlier.items ++ padded (take calls.count calls.last) ∷ []) }
     ensures calls { IfOk result (λ all. AreCalls all.items) }
 {
     let Calls {
-        mut ended,
-        words,
+        earlier: mut all,
+        last,
         count: _,
     } = calls;
-    ended.push(words)?;
-    Ok(ended)
+    all.push(last)?;
+    Ok(all)
 }
 
 // Copies of the names.

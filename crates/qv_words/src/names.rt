@@ -1,9 +1,10 @@
 //! Names: files, units and the stems of units.
-ghost use Rattle.std.specs.Prelude.{◌≡◌, ◌≤◌, IsTrue, length, map, string_bytes};
-ghost use Rattle.std.specs.List.{list_any};
-ghost use Rattle.std.specs.Str.{bytes_eq};
+ghost use Rattle.std.specs.Prelude.{◌≡◌, ◌≤◌, IfOk, IsTrue, length, map, string_bytes};
 ghost use Rattle.qv_words.specs.Names.{begins_with_dash, is_name, is_c_ending, is_unit_name, are_some, are_files, are_units, stem_of, have_distinct_stems};
 
+use indexmap::IndexSet;
+use qv_base::NoMemory;
+use std::alloc::Global;
 use std::path::Path;
 
 /// The most units or files of a command.
@@ -17,27 +18,20 @@ pub fn stem(unit: &str) -> &str
 }
 
 /// Whether no two units have the same stem.
-pub fn have_distinct_stems(units: &[String]) -> bool
-    ensures { result ≡ have_distinct_stems (map string_bytes units.now) }
+///
+/// # Errors
+///
+/// NoMemory where memory for the set of stems is refused.
+pub fn have_distinct_stems(alloc: Global, units: &[String]) -> Result<bool, NoMemory>
+    ensures { IfOk result (λ distinct. distinct ≡ have_distinct_stems (map string_bytes units.now)) }
 {
-    for (i, unit) in units.iter().enumerate() {
-        if is_stem_of_any(stem(unit.as_str()), &units[i + 1..]) {
-            return false;
-        }
-    }
-    true
-}
-
-// Whether one of the units has this stem.
-fn is_stem_of_any(stem_sought: &str, units: &[String]) -> bool
-    ensures { result ≡ list_any (bytes_eq stem_sought.now) (map stem_of (map string_bytes units.now)) }
-{
+    let mut stems = IndexSet::with_capacity(alloc, units.len())?;
     for unit in units {
-        if stem_sought == stem(unit.as_str()) {
-            return true;
+        if !stems.insert(stem(unit.as_str()))? {
+            return Ok(false);
         }
     }
-    false
+    Ok(true)
 }
 
 /// Whether these are 1 to 4,096 names of files.

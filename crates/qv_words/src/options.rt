@@ -1,13 +1,14 @@
 //! The options of a command, as they are read.
 use crate::calls::Calls;
+use indexmap::IndexMap;
 
 /// The options read so far.
 #[derive(Debug, Drop)]
 pub struct Options {
     /// The folders of included files.
     pub dirs: Vec<String>,
-    /// The macros and their texts.
-    pub defs: Vec<(String, String)>,
+    /// The texts of the macros, by their names.
+    pub defs: IndexMap<String, String>,
     /// The file that binds traps, where it was given.
     pub binds: Option<String>,
     /// The folder of the texts, where it was given.

@@ -1,13 +1,14 @@
-//! Reads one option.
-ghost use Rattle.std.specs.Prelude.{◌≡◌, ◌∷◌, ◌++◌, ◌<◌, [], take, length, IfOk, OnOk, IsTrue, Some, None, map, option_map, string_bytes, if◌then◌else◌};
-ghost use Rattle.qv_words.specs.Words.{no_options, with_option, with_next, with_value, once, filled};
+//! Reads one option or switch.
+ghost use Rattle.std.specs.Prelude.{◌≡◌, ◌∷◌, ◌++◌, ◌<◌, [], take, length, IfOk, OnOk, Some, None, map, option_map, string_bytes, if◌then◌else◌};
+ghost use Rattle.qv_words.specs.Words.{no_options, with_option, with_switch, switched, with_value, first_given, non_empty};
 ghost use Rattle.qv_words.specs.Shown.{options_shown};
 
 use crate::calls::Calls;
 use crate::define::{define, definition};
 use crate::number::{steps, word};
 use crate::options::Options;
-use crate::verb::{Flag, Verb, flag_named, takes};
+use crate::verb::{OptionName, Switch, Verb, option_named, switch_named, takes, takes_switch};
+use indexmap::IndexMap;
 use qv_base::NoMemory;
 use qv_base::limits::CALL_WORDS;
 use std::alloc::Global;
@@ -21,7 +22,7 @@ pub fn no_options(alloc: Global) -> Options
 {
     Options {
         dirs: Vec::new(alloc),
-        defs: Vec::new(alloc),
+        defs: IndexMap::new(alloc),
         binds: None,
         folder: None,
         image: None,
@@ -33,12 +34,12 @@ pub fn no_options(alloc: Global) -> Options
 }
 
 fn no_calls(alloc: Global) -> Calls
-    ensures ended { result.ended.items ≡ [] }
-    ensures words { result.count ≡ 0 }
+    ensures earlier { result.earlier.items ≡ [] }
+    ensures last { result.count ≡ 0 }
 {
     Calls {
-        ended: Vec::new(alloc),
-        words: [0; CALL_WORDS],
+        earlier: Vec::new(alloc),
+        last: [0; CALL_WORDS],
         count: 0,
     }
 }
@@ -58,25 +59,40 @@ pub fn read_option(
 ) -> Result<bool, NoMemory>
     ensures { IfOk result (λ read. (if read then Some (options_shown options.new) else None) ≡ with_option verb (options_shown options.old) word.now value.now) }
 {
-    let Some(flag) = flag_named(word) else {
+    let Some(option) = option_named(word) else {
         return Ok(false);
     };
-    if !takes(verb, flag) {
+    if !takes(verb, option) {
         return Ok(false);
     }
-    read_value(alloc, options, flag, value)
+    read_value(alloc, options, option, value)
 }
 
-/// Reads `-c`: ends a call, and begins the next. False where the command makes no calls, or has too
-/// many; the options then count no more.
+/// Reads a switch. False where the command doesn't take it, or not this often; the options then count no
+/// more.
 ///
 /// # Errors
 ///
-/// NoMemory where memory for the call is refused.
-pub fn read_next(verb: Verb, options: &mut Options) -> Result<bool, NoMemory>
-    ensures { IfOk result (λ read. (if read then Some (options_shown options.new) else None) ≡ with_next verb (options_shown options.old)) }
+/// NoMemory where memory for what it changes is refused.
+pub fn read_switch(verb: Verb, options: &mut Options, word: &str) -> Result<bool, NoMemory>
+    ensures { IfOk result (λ read. (if read then Some (options_shown options.new) else None) ≡ with_switch verb (options_shown options.old) word.now) }
 {
-    if !takes(verb, Flag::Word) || options.calls.ended.len() + 1 >= CALLS {
+    let Some(switch) = switch_named(word) else {
+        return Ok(false);
+    };
+    if !takes_switch(verb, switch) {
+        return Ok(false);
+    }
+    match switch {
+        Switch::NextCall => read_next_call(options),
+    }
+}
+
+// Reads `-c`. False where there are 4,096 calls already.
+fn read_next_call(options: &mut Options) -> Result<bool, NoMemory>
+    ensures { IfOk result (λ read. (if read then Some (options_shown options.new) else None) ≡ switched (options_shown options.old) Switch.NextCall) }
+{
+    if options.calls.earlier.len() + 1 >= CALLS {
         return Ok(false);
     }
     end_call(&mut options.calls)?;
@@ -85,12 +101,12 @@ pub fn read_next(verb: Verb, options: &mut Options) -> Result<bool, NoMemory>
 
 // Ends a call, and begins one without words.
 fn end_call(calls: &mut Calls) -> Result<(), NoMemory>
-    requires { length calls.old.ended.items < 4095 }
-    ensures ended { OnOk result (calls.new.ended.items ≡ calls.old.ended.items ++ calls.old.words ∷ []) }
-    ensures words { OnOk result (calls.new.count ≡ 0) }
+    requires { length calls.old.earlier.items < 4095 }
+    ensures earlier { OnOk result (calls.new.earlier.items ≡ calls.old.earlier.items ++ calls.old.last ∷ []) }
+    ensures last { OnOk result (calls.new.count ≡ 0) }
 {
-    calls.ended.push(calls.words)?;
-    calls.words = [0; CALL_WORDS];
+    calls.earlier.push(calls.last)?;
+    calls.last = [0; CALL_WORDS];
     calls.count = 0;
     Ok(())
 }
@@ -98,25 +114,25 @@ fn end_call(calls: &mut Calls) -> Result<(), NoMemory>
 fn read_value(
     alloc: Global,
     options: &mut Options,
-    flag: Flag,
+    option: OptionName,
     value: &str,
 ) -> Result<bool, NoMemory>
-    ensures { IfOk result (λ read. (if read then Some (options_shown options.new) else None) ≡ with_value (options_shown options.old) flag value.now) }
+    ensures { IfOk result (λ read. (if read then Some (options_shown options.new) else None) ≡ with_value (options_shown options.old) option value.now) }
 {
-    match flag {
-        Flag::IncludeDir => read_dir(alloc, options, value),
-        Flag::Definition => read_definition(alloc, options, value),
-        Flag::Binds => read_binds(alloc, options, value),
-        Flag::Folder => read_folder(alloc, options, value),
-        Flag::Image => read_image(alloc, options, value),
-        Flag::ListFile => read_list(alloc, options, value),
-        Flag::Steps => Ok(read_steps(options, value)),
-        Flag::Word => Ok(read_word(options, value)),
+    match option {
+        OptionName::IncludeDir => read_dir(alloc, options, value),
+        OptionName::Definition => read_definition(alloc, options, value),
+        OptionName::Binds => read_name(alloc, &mut options.binds, value),
+        OptionName::Folder => read_name(alloc, &mut options.folder, value),
+        OptionName::Image => read_name(alloc, &mut options.image, value),
+        OptionName::ListFile => read_name(alloc, &mut options.list, value),
+        OptionName::Steps => Ok(read_steps(options, value)),
+        OptionName::Word => Ok(read_word(options, value)),
     }
 }
 
 fn read_dir(alloc: Global, options: &mut Options, value: &str) -> Result<bool, NoMemory>
-    ensures { IfOk result (λ read. (if read then Some (options_shown options.new) else None) ≡ with_value (options_shown options.old) Flag.IncludeDir value.now) }
+    ensures { IfOk result (λ read. (if read then Some (options_shown options.new) else None) ≡ with_value (options_shown options.old) OptionName.IncludeDir value.now) }
 {
     if value.is_empty() {
         return Ok(false);
@@ -126,68 +142,28 @@ fn read_dir(alloc: Global, options: &mut Options, value: &str) -> Result<bool, N
 }
 
 fn read_definition(alloc: Global, options: &mut Options, value: &str) -> Result<bool, NoMemory>
-    ensures { IfOk result (λ read. (if read then Some (options_shown options.new) else None) ≡ with_value (options_shown options.old) Flag.Definition value.now) }
+    ensures { IfOk result (λ read. (if read then Some (options_shown options.new) else None) ≡ with_value (options_shown options.old) OptionName.Definition value.now) }
 {
-    let Some(d) = definition(alloc, value)? else {
+    let Some((name, text)) = definition(alloc, value)? else {
         return Ok(false);
     };
-    define(&mut options.defs, d)?;
+    define(&mut options.defs, name, text)?;
     Ok(true)
 }
 
-fn read_binds(alloc: Global, options: &mut Options, value: &str) -> Result<bool, NoMemory>
-    ensures { IfOk result (λ read. (if read then Some (options_shown options.new) else None) ≡ with_value (options_shown options.old) Flag.Binds value.now) }
+// Reads a name that is given once. False where the value is empty, or a name was given before.
+fn read_name(alloc: Global, name: &mut Option<String>, value: &str) -> Result<bool, NoMemory>
+    ensures { IfOk result (λ read. (if read then Some (option_map string_bytes name.new) else None) ≡ option_map Some (first_given (option_map string_bytes name.old) (non_empty value.now))) }
 {
-    let Some(name) = once(alloc, &options.binds, value)? else {
+    if name.is_some() || value.is_empty() {
         return Ok(false);
-    };
-    options.binds = Some(name);
-    Ok(true)
-}
-
-fn read_folder(alloc: Global, options: &mut Options, value: &str) -> Result<bool, NoMemory>
-    ensures { IfOk result (λ read. (if read then Some (options_shown options.new) else None) ≡ with_value (options_shown options.old) Flag.Folder value.now) }
-{
-    let Some(name) = once(alloc, &options.folder, value)? else {
-        return Ok(false);
-    };
-    options.folder = Some(name);
-    Ok(true)
-}
-
-fn read_image(alloc: Global, options: &mut Options, value: &str) -> Result<bool, NoMemory>
-    ensures { IfOk result (λ read. (if read then Some (options_shown options.new) else None) ≡ with_value (options_shown options.old) Flag.Image value.now) }
-{
-    let Some(name) = once(alloc, &options.image, value)? else {
-        return Ok(false);
-    };
-    options.image = Some(name);
-    Ok(true)
-}
-
-fn read_list(alloc: Global, options: &mut Options, value: &str) -> Result<bool, NoMemory>
-    ensures { IfOk result (λ read. (if read then Some (options_shown options.new) else None) ≡ with_value (options_shown options.old) Flag.ListFile value.now) }
-{
-    let Some(name) = once(alloc, &options.list, value)? else {
-        return Ok(false);
-    };
-    options.list = Some(name);
-    Ok(true)
-}
-
-// The value, where it isn't empty and none was given before.
-fn once(alloc: Global, before: &Option<String>, value: &str) -> Result<Option<String>, NoMemory>
-    ensures { IfOk result (λ name. option_map string_bytes name ≡ once (option_map string_bytes before.now) (filled value.now)) }
-{
-    if before.is_some() || value.is_empty() {
-        return Ok(None);
     }
-    let name = String::from_str(alloc, value)?;
-    Ok(Some(name))
+    *name = Some(String::from_str(alloc, value)?);
+    Ok(true)
 }
 
 fn read_steps(options: &mut Options, value: &str) -> bool
-    ensures { (if result then Some (options_shown options.new) else None) ≡ with_value (options_shown options.old) Flag.Steps value.now }
+    ensures { (if result then Some (options_shown options.new) else None) ≡ with_value (options_shown options.old) OptionName.Steps value.now }
 {
     if options.steps.is_some() {
         return false;
@@ -200,7 +176,7 @@ fn read_steps(options: &mut Options, value: &str) -> bool
 }
 
 fn read_word(options: &mut Options, value: &str) -> bool
-    ensures { (if result then Some (options_shown options.new) else None) ≡ with_value (options_shown options.old) Flag.Word value.now }
+    ensures { (if result then Some (options_shown options.new) else None) ≡ with_value (options_shown options.old) OptionName.Word value.now }
 {
     let Some(word) = word(value.as_bytes()) else {
         return false;
@@ -215,9 +191,9 @@ fn read_word(options: &mut Options, value: &str) -> bool
 // One more word of the last call.
 fn add_word(calls: &mut Calls, word: u32)
     requires { calls.old.count < 14 }
-    ensures words { take calls.new.count calls.new.words ≡ take calls.old.count calls.old.words ++ word ∷ [] }
-    ensures ended { calls.new.ended.items ≡ calls.old.ended.items }
+    ensures last { take calls.new.count calls.new.last ≡ take calls.old.count calls.old.last ++ word ∷ [] }
+    ensures earlier { calls.new.earlier.items ≡ calls.old.earlier.items }
 {
-    calls.words[calls.count] = word;
+    calls.last[calls.count] = word;
     calls.count += 1;
 }

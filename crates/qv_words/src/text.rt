@@ -1,7 +1,7 @@
 //! How the text of a definition is cut, and which texts a definition may have.
-ghost use Rattle.std.specs.Prelude.{◌≡◌, ◌+◌, ◌<◌, ◌≤◌, ◌==◌, IfOk, IfSome, Some, option_map, option_copied, length, vec_items, if◌then◌else◌};
+ghost use Rattle.std.specs.Prelude.{◌≡◌, ◌⊎◌, ◌∷◌, ℕ, ◌+◌, ◌<◌, ◌≤◌, ◌==◌, IfOk, IfSome, IsTrue, Some, option_map, option_copied, unwrap_or, length, vec_items, if◌then◌else◌};
 ghost use Rattle.std.specs.List.{list_any};
-ghost use Rattle.qv_words.specs.Text.{is_blank, is_quote, is_paste, blank_piece, token_piece, starts_with, comment_length, constant_length, piece_at, tokens_of, is_definition_text};
+ghost use Rattle.qv_words.specs.Text.{is_blank, is_quote, is_paste, blank_piece, token_piece, starts_with, comment_length, constant_length, piece_at, tokens_of, is_definition_text, AreUnclosed};
 
 use qv_base::NoMemory;
 use std::alloc::Global;
@@ -22,6 +22,42 @@ pub struct Piece {
     pub length: usize,
     /// Its token; a blank and a comment are none.
     pub token: Option<Token>,
+}
+
+/// The quotes whose constants are known to have no end in the rest of a text, so that it is looked for
+/// once.
+#[derive(Clone, Copy, Debug)]
+pub struct Unclosed {
+    /// No string has an end.
+    pub double: bool,
+    /// No character constant has one.
+    pub single: bool,
+}
+
+impl Unclosed {
+    ghost use Rattle.qv_words.specs.Text.{is_unclosed, is_quote};
+
+    fn has(&self, quote: u8) -> bool
+        requires { IsTrue (is_quote quote) }
+        ensures { result ≡ is_unclosed self.now quote }
+    {
+        if quote == b'"' {
+            self.double
+        } else {
+            self.single
+        }
+    }
+
+    fn add(&mut self, quote: u8)
+        requires { IsTrue (is_quote quote) }
+        ensures { (q : ℕ) → IsTrue (is_unclosed self.new q) → IsTrue (is_unclosed self.old q) ⊎ (q ≡ quote) }
+    {
+        if quote == b'"' {
+            self.double = true;
+        } else {
+            self.single = true;
+        }
+    }
 }
 
 /// Whether a definition may have this text: it has no line feed and no open comment, and `##` stands
@@ -59,9 +95,13 @@ fn tokens(alloc: Global, text: &[u8]) -> Result<Option<Vec<Token>>, NoMemory>
     ensures { IfOk result (λ tokens. option_map vec_items tokens ≡ tokens_of text.now) }
 {
     let mut tokens = Vec::new(alloc);
+    let mut unclosed = Unclosed {
+        double: false,
+        single: false,
+    };
     let mut at = 0;
     while at < text.len() {
-        let Some(piece) = piece_at(text[at], &text[at + 1..]) else {
+        let Some(piece) = piece_at(text[at], &text[at + 1..], &mut unclosed) else {
             return Ok(None);
         };
         if let Some(token) = piece.token {
@@ -73,7 +113,9 @@ fn tokens(alloc: Global, text: &[u8]) -> Result<Option<Vec<Token>>, NoMemory>
 }
 
 // The piece that stands first in a text of this byte and the rest. None where it is an open comment.
-fn piece_at(byte: u8, rest: &[u8]) -> Option<Piece>
+fn piece_at(byte: u8, rest: &[u8], unclosed: &mut Unclosed) -> Option<Piece>
+    requires { AreUnclosed unclosed.old (byte ∷ rest.now) }
+    ensures unclosed { AreUnclosed unclosed.new rest.now }
     ensures piece { result ≡ piece_at byte rest.now }
     ensures some { IfSome result (λ piece. 0 < piece.length) }
     ensures within { IfSome result (λ piece. piece.length ≤ 1 + length rest.now) }
@@ -86,7 +128,7 @@ fn piece_at(byte: u8, rest: &[u8]) -> Option<Piece>
         return Some(blank_piece(2 + behind));
     }
     if is_quote(byte) {
-        let behind = constant_len(byte, rest).unwrap_or(0);
+        let behind = constant_rest(byte, rest, unclosed);
         return Some(token_piece(Token::Other, 1 + behind));
     }
     if byte == b'#' && starts_with(b'#', rest) {
@@ -124,6 +166,26 @@ fn comment_len(text: &[u8]) -> Option<usize>
         }
     }
     None
+}
+
+// How many bytes behind a quote belong to its constant: none where it has no end.
+fn constant_rest(quote: u8, rest: &[u8], unclosed: &mut Unclosed) -> usize
+    requires quote { IsTrue (is_quote quote) }
+    requires unclosed { AreUnclosed unclosed.old (quote ∷ rest.now) }
+    ensures unclosed { AreUnclosed unclosed.new rest.now }
+    ensures value { result ≡ unwrap_or (constant_length quote rest.now) 0 }
+    ensures within { result ≤ length rest.now }
+{
+    if unclosed.has(quote) {
+        return 0;
+    }
+    match constant_len(quote, rest) {
+        Some(behind) => behind,
+        None => {
+            unclosed.add(quote);
+            0
+        }
+    }
 }
 
 // How many bytes end a constant, its closing quote among them. None where it has no end.

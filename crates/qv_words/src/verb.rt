@@ -1,6 +1,6 @@
-//! The first word of a command, and its options.
+//! The first word of a command, its options and its switches.
 ghost use Rattle.std.specs.Prelude.{◌≡◌};
-ghost use Rattle.qv_words.specs.Words.{verb_of, flag_of, takes, is_next};
+ghost use Rattle.qv_words.specs.Words.{verb_of, option_of, switch_of, takes, takes_switch, default_steps};
 
 /// What the first words say is to be done.
 #[derive(Clone, Copy, Debug, PartialEq, Eq)]
@@ -19,9 +19,9 @@ pub enum Verb {
     Generate,
 }
 
-/// An option that has a value.
+/// An option: a word with a value behind it.
 #[derive(Clone, Copy, Debug, PartialEq, Eq)]
-pub enum Flag {
+pub enum OptionName {
     /// `-I dir`: a folder of included files.
     IncludeDir,
     /// `-D name[=text]`: a macro.
@@ -40,6 +40,13 @@ pub enum Flag {
     Word,
 }
 
+/// A switch: a word without a value.
+#[derive(Clone, Copy, Debug, PartialEq, Eq)]
+pub enum Switch {
+    /// `-c`: ends the words of one call and begins those of the next.
+    NextCall,
+}
+
 /// The command that begins with this word. None where no command does.
 pub fn verb_named(word: &str) -> Option<Verb>
     ensures { result ≡ verb_of word.now }
@@ -54,43 +61,65 @@ pub fn verb_named(word: &str) -> Option<Verb>
     }
 }
 
-/// The option that is written so. None where no option with a value is.
-pub fn flag_named(word: &str) -> Option<Flag>
-    ensures { result ≡ flag_of word.now }
+/// The option that is written so. None where no option is.
+pub fn option_named(word: &str) -> Option<OptionName>
+    ensures { result ≡ option_of word.now }
 {
     match word {
-        "-I" => Some(Flag::IncludeDir),
-        "-D" => Some(Flag::Definition),
-        "-t" => Some(Flag::Binds),
-        "-d" => Some(Flag::Folder),
-        "-o" => Some(Flag::Image),
-        "-f" => Some(Flag::ListFile),
-        "-n" => Some(Flag::Steps),
-        "-a" => Some(Flag::Word),
+        "-I" => Some(OptionName::IncludeDir),
+        "-D" => Some(OptionName::Definition),
+        "-t" => Some(OptionName::Binds),
+        "-d" => Some(OptionName::Folder),
+        "-o" => Some(OptionName::Image),
+        "-f" => Some(OptionName::ListFile),
+        "-n" => Some(OptionName::Steps),
+        "-a" => Some(OptionName::Word),
         _ => None,
     }
 }
 
-/// Whether the word is `-c`, the option without a value: it ends a call.
-pub fn is_next(word: &str) -> bool
-    ensures { result ≡ is_next word.now }
+/// The switch that is written so. None where no switch is.
+pub fn switch_named(word: &str) -> Option<Switch>
+    ensures { result ≡ switch_of word.now }
 {
-    word == "-c"
+    match word {
+        "-c" => Some(Switch::NextCall),
+        _ => None,
+    }
 }
 
-/// Whether the command takes the option.
-pub fn takes(verb: Verb, flag: Flag) -> bool
-    ensures { result ≡ takes verb flag }
+/// Whether the command takes the option, as the table at [`read_words`](crate::words::read_words) says.
+pub fn takes(verb: Verb, option: OptionName) -> bool
+    ensures { result ≡ takes verb option }
 {
     match verb {
         Verb::Compile => matches!(
-            flag,
-            Flag::IncludeDir | Flag::Definition | Flag::Binds | Flag::Folder
+            option,
+            OptionName::IncludeDir | OptionName::Definition | OptionName::Binds | OptionName::Folder
         ),
-        Verb::Assemble => matches!(flag, Flag::Image | Flag::ListFile),
+        Verb::Assemble => matches!(option, OptionName::Image | OptionName::ListFile),
         Verb::Disassemble => false,
-        Verb::Run => matches!(flag, Flag::Steps | Flag::Word),
-        Verb::Build => !matches!(flag, Flag::Folder | Flag::ListFile),
-        Verb::Generate => matches!(flag, Flag::Image | Flag::Steps | Flag::Word),
+        Verb::Run => matches!(option, OptionName::Steps | OptionName::Word),
+        Verb::Build => !matches!(option, OptionName::Folder | OptionName::ListFile),
+        Verb::Generate => matches!(option, OptionName::Image | OptionName::Steps | OptionName::Word),
+    }
+}
+
+/// Whether the command takes the switch, as the same table says.
+pub fn takes_switch(verb: Verb, switch: Switch) -> bool
+    ensures { result ≡ takes_switch verb switch }
+{
+    match switch {
+        Switch::NextCall => matches!(verb, Verb::Run | Verb::Build | Verb::Generate),
+    }
+}
+
+/// The most steps of a call where `-n` doesn't come. A command that takes no `-n` makes no call.
+pub fn default_steps(verb: Verb) -> u64
+    ensures { result ≡ default_steps verb }
+{
+    match verb {
+        Verb::Run | Verb::Build | Verb::Generate => 10_000_000,
+        Verb::Compile | Verb::Assemble | Verb::Disassemble => 0,
     }
 }

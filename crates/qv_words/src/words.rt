@@ -9,21 +9,28 @@ use crate::finish::command_with;
 use crate::names::begins_with_dash;
 use crate::number::{seed, size};
 use crate::options::Options;
-use crate::read::{no_options, read_next, read_option};
-use crate::verb::{Verb, is_next, verb_named};
+use crate::read::{no_options, read_option, read_switch};
+use crate::verb::{Verb, switch_named, verb_named};
 use qv_base::NoMemory;
 use std::alloc::Global;
 
 /// The command that the words stand for, with the defaults filled in. None exactly where they have
-/// another form than one of these, in which the options may stand in any order:
+/// another form than a row of this table. It says how often an option or a switch comes with a command, in
+/// any order, and the names behind them.
 ///
 /// ```text
-/// qcc   [-I dir].. [-D name[=text]].. [-t binds] -d dir unit..
-/// q3asm -o image file..          or   q3asm -o image -f list
-/// qdis  image file
-/// qrun  [-n N] [-a W | -c].. image
-/// qall  [-I dir].. [-D name[=text]].. [-t binds] [-n N] [-a W | -c].. -o image unit..
-/// qall  --gen S SIZE [-n N] [-a W | -c].. -o image
+///             -I  -D  -t  -d  -o  -f  -n  -a  -c   names
+/// qcc         *   *   ?   1                        units, whose stems differ
+/// q3asm                       1   ?                files, or none beside -f
+/// qdis                                             an image and a file
+/// qrun                                ?   *   *    an image
+/// qall        *   *   ?       1       ?   *   *    units
+/// qall --gen                  1       ?   *   *    none; behind --gen stand a seed and a size
+///
+/// *  any number of times: -c at most 4,095 times, and -a at most 14 times before, between and behind them
+/// ?  at most once
+/// 1  exactly once
+/// Units and files are 1 to 4,096.
 /// ```
 ///
 /// # Errors
@@ -106,7 +113,7 @@ fn read_from(
     command_with(alloc, verb, options, &words[at..])
 }
 
-// Reads the option that this word begins, and answers how many of the words behind it belong to it.
+// Reads the option or the switch that this word begins, and answers how many of the words behind it belong to it.
 // None where these words have no reading.
 fn read_first(
     alloc: Global,
@@ -119,8 +126,8 @@ fn read_first(
     ensures reading { let all = read_from verb (word.now ∷ map string_bytes rest.now) (options_shown options.old) in IfOk result (λ values. MatchOption values (all ≡ None) (λ n. all ≡ read_from verb (map string_bytes (drop n rest.now)) (options_shown options.new))) }
     ensures within { IfOk result (λ values. IfSome values (λ n. n ≤ length rest.now)) }
 {
-    if is_next(word) {
-        if !read_next(verb, options)? {
+    if switch_named(word).is_some() {
+        if !read_switch(verb, options, word)? {
             return Ok(None);
         }
         return Ok(Some(0));

@@ -8,7 +8,7 @@ use Rattle.qv_ops.specs.declared.instr.Instr.{Instr}
 use Rattle.qv_outside.specs.Event.{Reply}
 use Rattle.qv_outside.specs.Hosts.{Table}
 use Rattle.vm_core.specs.declared.stop.Stop.{Stop}
-use Rattle.vm_core.specs.Machine.{State, Turn, Goes, Stops, turn, act, act_at, pushed, with_operands, Going, Stopped, runs, after}
+use Rattle.vm_core.specs.Machine.{State, Step, Goes, Stops, step, act, act_at, pushed, with_operands, Going, Stopped, runs, after}
 use Rattle.vm_core.proofs.Runs.{runs-zero, runs-suc}
 
 -- these instructions stand in the code at this place
@@ -37,13 +37,13 @@ has_all (i ∷ is) pre =
     (here, subst (λ m. HasAt (pre ++ i ∷ is) m is) n moved)
 
 -- the instruction at the place of a state
-pub turn_is : (code : List Instr) (table : Table) (i : Instr) (s : State) → slice_get code s.next ≡ Some i → turn code table s ≡ act table (length code) i.op i.operand s
-turn_is code table i s h = ap (λ o. act_at table (length code) o s) h
+pub step_is : (code : List Instr) (table : Table) (i : Instr) (s : State) → slice_get code s.next ≡ Some i → step code table s ≡ act table (length code) i.op i.operand s
+step_is code table i s h = ap (λ o. act_at table (length code) o s) h
 
 pub pushed_goes : (s : State) (below : List ℕ) (w : ℕ) → length below < 256 → pushed s below w ≡ Goes (with_operands s (w ∷ below))
 pushed_goes s below w lt = grind (arith, nat_tests)
 
-module _ (f : State → Turn) where
+module _ (f : State → Step) where
   -- j steps, each of which goes on
   abbrev pub GoesIn : ℕ → State → State → Type 0
   GoesIn zero s t = s ≡ t

@@ -4,19 +4,19 @@ use Rattle.qv_outside.specs.Told.{Appends}
 use Rattle.qv_outside.specs.Event.{Event, Reply, Answered, host_events, output}
 use Rattle.vm_core.specs.declared.stop.Stop.{Stop}
 use Rattle.vm_core.specs.declared.stop.Stop.TheVariants.{Returned, Budget, HostFault, OutFault}
-use Rattle.vm_core.specs.Machine.{State, Turn, Ending, Going, Stopped, End, runs}
-use Rattle.vm_core.specs.Ran.{Outside, Close, Full, ByHost, ByOut, close_of, Whole, Ran}
+use Rattle.vm_core.specs.Machine.{State, Step, Ending, Going, Stopped, End, runs}
+use Rattle.vm_core.specs.Ran.{Outside, Outcome, AsDefined, ByHost, ByOut, outcome_of, RanAsDefined, Ran}
 use Rattle.vm_core.proofs.Appending.{appends_none}
 use Rattle.vm_core.proofs.Replies.{no_replies}
 use Rattle.vm_core.proofs.Runs.{events_grow}
 
 -- over these replies the run ends so, with no event and with those left
-abbrev pub IsQuiet : (State → Turn) → ℕ → State → List Reply → Ending → State → List Reply → Type 0
+abbrev pub IsQuiet : (State → Step) → ℕ → State → List Reply → Ending → State → List Reply → Type 0
 IsQuiet f n s rs ending t left = runs f n s rs ≡ record { ending = ending; events = []; state = t; left = left }
 
 -- the call closed as the definition does, in that state, and the outside is as it was
-pub record Unseen (ending : Ending) (t after : State) (old new : Outside) (close : Close) : Type 0 where
-  pub close_is : close ≡ Full ending
+pub record Unseen (ending : Ending) (t after : State) (old new : Outside) (outcome : Outcome) : Type 0 where
+  pub close_is : outcome ≡ AsDefined ending
   pub state : after ≡ t
   pub asked : new.asked ≡ old.asked
   pub replied : new.replied ≡ old.replied
@@ -30,8 +30,8 @@ no_more : (es rest : List Event) → [] ≡ es ++ rest → es ≡ []
 no_more [] rest p = refl
 no_more (x ∷ es) rest p = cc
 
-module _ (f : State → Turn) (n : ℕ) (s t after : State) (old new : Outside) (ending : Ending) (left : List Reply) where
-  whole_unseen : (es : List Event) (rs : List Reply) (here : Ending) → IsQuiet f n s rs ending t left → Answered (host_events es) rs → Appends old.replied new.replied rs → Whole f n s after old new es rs here → Unseen ending t after old new (Full here)
+module _ (f : State → Step) (n : ℕ) (s t after : State) (old new : Outside) (ending : Ending) (left : List Reply) where
+  whole_unseen : (es : List Event) (rs : List Reply) (here : Ending) → IsQuiet f n s rs ending t left → Answered (host_events es) rs → Appends old.replied new.replied rs → RanAsDefined f n s after old new es rs here → Unseen ending t after old new (AsDefined here)
   whole_unseen es rs here quiet answered r p =
       let e : record { ending = here; events = es; state = after; left = [] } ≡ record { ending = ending; events = []; state = t; left = left } = sym p.come ∙ quiet in
       let none : es ≡ [] = ap (λ (x : End). x.events) e in
@@ -39,7 +39,7 @@ module _ (f : State → Turn) (n : ℕ) (s t after : State) (old new : Outside) 
       let R : List Reply → Type 0 = λ x. Appends old.replied new.replied x in
       let W : List Event → Type 0 = λ x. Appends old.written new.written (output x) in
       record {
-        close_is = ap (λ x. Full x) (ap (λ (x : End). x.ending) e);
+        close_is = ap (λ x. AsDefined x) (ap (λ (x : End). x.ending) e);
         state = ap (λ (x : End). x.state) e;
         asked = appends_none old.asked new.asked (subst A none p.asked);
         replied = appends_none old.replied new.replied (subst R (no_replies es rs none answered) r);
@@ -47,8 +47,8 @@ module _ (f : State → Turn) (n : ℕ) (s t after : State) (old new : Outside) 
       }
 
   -- neither the host nor the sink failed, since nothing was asked and nothing put
-  pub unseen : (close : Close) (p : Ran f n s after old new close) → IsQuiet f n s p.replies ending t left → Unseen ending t after old new close
-  unseen (Full here) p quiet = whole_unseen p.events p.replies here quiet p.answered p.replied p.ends
+  pub unseen : (outcome : Outcome) (p : Ran f n s after old new outcome) → IsQuiet f n s p.replies ending t left → Unseen ending t after old new outcome
+  unseen (AsDefined here) p quiet = whole_unseen p.events p.replies here quiet p.answered p.replied p.ends
   unseen ByHost p quiet = absurd (no_last p.events p.ends.last (ap (λ (x : End). x.events) (sym p.ends.come ∙ quiet)))
   unseen ByOut p quiet =
       let g : (rest : List Event) × ((runs f n s p.replies).events ≡ (runs f p.ends.steps s p.replies).events ++ rest) = events_grow f p.ends.steps n s p.replies p.ends.within in
@@ -56,13 +56,13 @@ module _ (f : State → Turn) (n : ℕ) (s t after : State) (old new : Outside) 
       let done : (runs f p.ends.steps s p.replies).events ≡ p.events ++ p.ends.last ∷ [] = ap (λ (x : End). x.events) p.ends.come ∙ p.ends.done in
       absurd (no_last p.events p.ends.last (sym done ∙ no_more (runs f p.ends.steps s p.replies).events g.0 none))
 
-pub returned_is : (stop : Stop) (w : ℕ) → close_of stop ≡ Full (Stopped (Returned w)) → stop ≡ Returned w
+pub returned_is : (stop : Stop) (w : ℕ) → outcome_of stop ≡ AsDefined (Stopped (Returned w)) → stop ≡ Returned w
 returned_is Budget w e = cc
 returned_is HostFault w e = cc
 returned_is OutFault w e = cc
 returned_is stop w e = cc
 
-pub budget_is : (stop : Stop) → close_of stop ≡ Full Going → stop ≡ Budget
+pub budget_is : (stop : Stop) → outcome_of stop ≡ AsDefined Going → stop ≡ Budget
 budget_is Budget e = refl
 budget_is HostFault e = cc
 budget_is OutFault e = cc

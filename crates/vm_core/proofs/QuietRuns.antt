@@ -8,21 +8,21 @@ use Rattle.qv_ops.specs.declared.op.Op.{Op}
 use Rattle.qv_ops.specs.declared.op.Op.TheVariants.{Ignore, Break, Enter, Leave, Call, Push, Pop, Const, Local, Jump, Eq, Ne, Lti, Lei, Gti, Gei, Ltu, Leu, Gtu, Geu, Load1, Load2, Load4, Store1, Store2, Store4, Arg, BlockCopy, Sex8, Sex16, Negi, Add, Sub, Divi, Divu, Modi, Modu, Muli, Mulu, Band, Bor, Bxor, Bcom, Lsh, Rshi, Rshu}
 use Rattle.qv_outside.specs.Event.{Reply}
 use Rattle.qv_outside.specs.Hosts.{Table}
-use Rattle.vm_core.specs.Machine.{State, Turn, Goes, Stops, Puts, Gives, Calls, turn, act, act_at, pushed, popped, on_top, on_two, divided, divided_signed, branched, stored, argued, may_copy, copied, bottom, returned, entered, gone_back, left, jumped, called, Going, Asks, End, after, runs}
-use Rattle.vm_core.specs.Ran.{Outside, Close, Ran}
+use Rattle.vm_core.specs.Machine.{State, Step, Goes, Stops, Puts, Raises, Calls, step, act, act_at, pushed, popped, on_top, on_two, divided, divided_signed, branched, stored, argued, may_copy, copied, bottom, returned, entered, gone_back, left, jumped, called, Going, Asks, End, after, runs}
+use Rattle.vm_core.specs.Ran.{Outside, Outcome, Ran}
 use Rattle.vm_core.proofs.Runs.{runs-zero, runs-suc, asks_not_going}
 use Rattle.vm_core.proofs.Loop.{no_traps}
 use Rattle.vm_core.proofs.Quiet.{IsQuiet, Unseen, unseen as quiet_unseen}
 
--- a turn that goes on or stops, and nothing more
-abbrev pub IsPlain : Turn → Type 0
+-- a step that goes on or stops, and nothing more
+abbrev pub IsPlain : Step → Type 0
 IsPlain (Goes s) = Unit {0}
 IsPlain (Stops stop s) = Unit {0}
 IsPlain (Puts e s) = ⊥
-IsPlain (Gives e s) = ⊥
+IsPlain (Raises e s) = ⊥
 IsPlain (Calls e s answered) = ⊥
 
-either_plain : (b : Bool) (t u : Turn) → IsPlain t → IsPlain u → IsPlain (if b then t else u)
+either_plain : (b : Bool) (t u : Step) → IsPlain t → IsPlain u → IsPlain (if b then t else u)
 either_plain true t u p q = p
 either_plain false t u p q = q
 
@@ -88,12 +88,12 @@ jumped_plain : (count : ℕ) (s : State) (words : List ℕ) → IsPlain (jumped 
 jumped_plain count s [] = tt
 jumped_plain count s (t ∷ rest) = either_plain (nat_lt t count) _ _ tt tt
 
--- a plain turn, and the same as another
-record Alike (t u : Turn) : Type 0 where
+-- a plain step, and the same as another
+record Alike (t u : Step) : Type 0 where
   plain : IsPlain t
   same : t ≡ u
 
-alike : (t : Turn) → IsPlain t → Alike t t
+alike : (t : Step) → IsPlain t → Alike t t
 alike t p = record { plain = p; same = refl }
 
 called_alike : (table table2 : Table) (count : ℕ) (s : State) (words : List ℕ) → Alike (called table count s words) (called table2 count s words)
@@ -154,32 +154,32 @@ module _ (code : List Instr) (table table2 : Table) where
   at_alike s None = alike _ tt
   at_alike s (Some i) = act_alike table table2 (length code) i.op i.operand s
 
-  turn_plain : (s : State) → IsPlain (turn code table s)
-  turn_plain s = (at_alike s (slice_get code s.next)).plain
+  step_plain : (s : State) → IsPlain (step code table s)
+  step_plain s = (at_alike s (slice_get code s.next)).plain
 
-  turn_same : (s : State) → turn code table s ≡ turn code table2 s
-  turn_same s = (at_alike s (slice_get code s.next)).same
+  step_same : (s : State) → step code table s ≡ step code table2 s
+  step_same s = (at_alike s (slice_get code s.next)).same
 
 -- with these replies over
 abbrev pub silent : End → List Reply → End
 silent end rs = record { ending = end.ending; events = []; state = end.state; left = rs }
 
-plain_after : (t : Turn) (rs : List Reply) (go to : State → List Reply → End) → IsPlain t → ((s : State) (l : List Reply) → go s l ≡ silent (to s []) l) → after t rs go ≡ silent (after t [] to) rs
+plain_after : (t : Step) (rs : List Reply) (go to : State → List Reply → End) → IsPlain t → ((s : State) (l : List Reply) → go s l ≡ silent (to s []) l) → after t rs go ≡ silent (after t [] to) rs
 plain_after (Goes s) rs go to plain e = e s rs
 plain_after (Stops stop s) rs go to plain e = refl
 plain_after (Puts v s) rs go to plain e = absurd plain
-plain_after (Gives v s) rs go to plain e = absurd plain
+plain_after (Raises v s) rs go to plain e = absurd plain
 plain_after (Calls v s answered) rs go to plain e = absurd plain
 
-plain_no_ask : (t : Turn) (go : State → List Reply → End) → IsPlain t → ((s : State) → (go s []).ending ≡ Asks → ⊥) → (after t [] go).ending ≡ Asks → ⊥
+plain_no_ask : (t : Step) (go : State → List Reply → End) → IsPlain t → ((s : State) → (go s []).ending ≡ Asks → ⊥) → (after t [] go).ending ≡ Asks → ⊥
 plain_no_ask (Goes s) go plain on = on s
 plain_no_ask (Stops stop s) go plain on = λ e. cc
 plain_no_ask (Puts v s) go plain on = absurd plain
-plain_no_ask (Gives v s) go plain on = absurd plain
+plain_no_ask (Raises v s) go plain on = absurd plain
 plain_no_ask (Calls v s answered) go plain on = absurd plain
 
--- plain turns of f that are those of g, over no replies
-pub plain_runs : (f g : State → Turn) (n : ℕ) (s : State) (rs : List Reply) → ((t : State) → IsPlain (f t)) → ((t : State) → f t ≡ g t) → runs f n s rs ≡ silent (runs g n s []) rs
+-- plain steps of f that are those of g, over no replies
+pub plain_runs : (f g : State → Step) (n : ℕ) (s : State) (rs : List Reply) → ((t : State) → IsPlain (f t)) → ((t : State) → f t ≡ g t) → runs f n s rs ≡ silent (runs g n s []) rs
 plain_runs f g zero s rs plain same = runs-zero f s rs ∙ ap (λ (x : End). silent x rs) (sym (runs-zero g s []))
 plain_runs f g (suc n) s rs plain same =
     runs-suc f n s rs
@@ -187,25 +187,25 @@ plain_runs f g (suc n) s rs plain same =
     ∙ ap (λ t. silent (after t [] (λ u l. runs g n u l)) rs) (same s)
     ∙ ap (λ (x : End). silent x rs) (sym (runs-suc g n s []))
 
-plain_runs_no_ask : (f : State → Turn) (n : ℕ) (s : State) → ((t : State) → IsPlain (f t)) → (runs f n s []).ending ≡ Asks → ⊥
+plain_runs_no_ask : (f : State → Step) (n : ℕ) (s : State) → ((t : State) → IsPlain (f t)) → (runs f n s []).ending ≡ Asks → ⊥
 plain_runs_no_ask f zero s plain e = let p : Going ≡ Asks = sym (ap (λ (x : End). x.ending) (runs-zero f s [])) ∙ e in asks_not_going p
 plain_runs_no_ask f (suc n) s plain e =
     plain_no_ask (f s) (λ t l. runs f n t l) (plain s) (λ t. plain_runs_no_ask f n t plain) (sym (ap (λ (x : End). x.ending) (runs-suc f n s [])) ∙ e)
 
 -- where a run comes to that neither the host nor the sink sees
 abbrev pub quiet_end : List Instr → ℕ → State → End
-quiet_end code n s = runs (turn code no_traps) n s []
+quiet_end code n s = runs (step code no_traps) n s []
 
 -- a run comes to the same end over every host, with no event and no reply used
-pub run_quiet : (code : List Instr) (table : Table) (n : ℕ) (s : State) (rs : List Reply) → IsQuiet (turn code table) n s rs (quiet_end code n s).ending (quiet_end code n s).state rs
-run_quiet code table n s rs = plain_runs (turn code table) (turn code no_traps) n s rs (turn_plain code table no_traps) (turn_same code table no_traps)
+pub run_quiet : (code : List Instr) (table : Table) (n : ℕ) (s : State) (rs : List Reply) → IsQuiet (step code table) n s rs (quiet_end code n s).ending (quiet_end code n s).state rs
+run_quiet code table n s rs = plain_runs (step code table) (step code no_traps) n s rs (step_plain code table no_traps) (step_same code table no_traps)
 
 -- nor does it stand at a call of the host
 pub run_no_ask : (code : List Instr) (n : ℕ) (s : State) → (quiet_end code n s).ending ≡ Asks → ⊥
-run_no_ask code n s = plain_runs_no_ask (turn code no_traps) n s (turn_plain code no_traps no_traps)
+run_no_ask code n s = plain_runs_no_ask (step code no_traps) n s (step_plain code no_traps no_traps)
 
 -- so a call closes as it does, and the outside is as it was
-pub unseen : (code : List Instr) (table : Table) (n : ℕ) (s after : State) (old new : Outside) (close : Close) → Ran (turn code table) n s after old new close →
-    Unseen (quiet_end code n s).ending (quiet_end code n s).state after old new close
-unseen code table n s after old new close p =
-    quiet_unseen (turn code table) n s (quiet_end code n s).state after old new (quiet_end code n s).ending p.replies close p (run_quiet code table n s p.replies)
+pub unseen : (code : List Instr) (table : Table) (n : ℕ) (s after : State) (old new : Outside) (outcome : Outcome) → Ran (step code table) n s after old new outcome →
+    Unseen (quiet_end code n s).ending (quiet_end code n s).state after old new outcome
+unseen code table n s after old new outcome p =
+    quiet_unseen (step code table) n s (quiet_end code n s).state after old new (quiet_end code n s).ending p.replies outcome p (run_quiet code table n s p.replies)

@@ -1,5 +1,6 @@
 -- The machine: its state, its step, and a run of steps over a list of replies.
 use Rattle.std.specs.Prelude.{ℕ, zero, suc, ◌+◌, ◌-◌, ◌/◌, ◌%◌, ◌^◌, Bool, not, ◌&&◌, List, [], ◌∷◌, ◌++◌, length, replicate, Option, Some, None, slice_get, nat_lt, nat_le, ◌==◌, if◌then◌else◌, bit_and, bit_or, bit_xor}
+use Rattle.qv_base.specs.declared.limits.TheConstants.{STACK_BYTES}
 use Rattle.qv_base.specs.Word.{plus, minus, times, negated, shifted_left, shifted_right, shifted_signed, is_less_signed, quotient_signed, remainder_signed, sign_extended_8, sign_extended_16}
 use Rattle.masked_mem.specs.Memory.{load1, load2, load4, store1, store2, store4, copied_at}
 use Rattle.qv_ops.specs.declared.instr.Instr.{Instr}
@@ -21,24 +22,24 @@ pub record State : Type 0 where
   pub next : ℕ
 
 -- what one instruction does, up to where something outside is put or asked
-pub data Turn : Type 0 where
+pub data Step : Type 0 where
   -- goes on in this state
-  Goes : State → Turn
+  Goes : State → Step
   -- stops in this state
-  Stops : Stop → State → Turn
+  Stops : Stop → State → Step
   -- puts what the event says, then goes on
-  Puts : Event → State → Turn
+  Puts : Event → State → Step
   -- puts what the event says, then stops with ModuleError
-  Gives : Event → State → Turn
+  Raises : Event → State → Step
   -- asks the host; the state while it asks, and how a reply goes on
-  Calls : Event → State → (Reply → State) → Turn
+  Calls : Event → State → (Reply → State) → Step
 
 -- on to the next instruction, with other operands
 abbrev pub with_operands : State → List ℕ → State
 with_operands s words = record { memory = s.memory; program_stack = s.program_stack; operands = words; next = s.next + 1 }
 
 -- on to the instruction at a place, with other operands
-abbrev pub gone_to : State → List ℕ → ℕ → Turn
+abbrev pub gone_to : State → List ℕ → ℕ → Step
 gone_to s words place = Goes (record { memory = s.memory; program_stack = s.program_stack; operands = words; next = place })
 
 -- another memory
@@ -46,52 +47,52 @@ abbrev pub with_memory : State → List ℕ → State
 with_memory s memory = record { memory = memory; program_stack = s.program_stack; operands = s.operands; next = s.next }
 
 -- a push of a word onto those below
-abbrev pub pushed : State → List ℕ → ℕ → Turn
+abbrev pub pushed : State → List ℕ → ℕ → Step
 pushed s below w = if nat_lt (length below) 256 then Goes (with_operands s (w ∷ below)) else Stops OperandOver s
 
 -- the top word is dropped
-abbrev pub popped : State → List ℕ → Turn
+abbrev pub popped : State → List ℕ → Step
 popped s [] = Stops OperandUnder s
 popped s (t ∷ rest) = Goes (with_operands s rest)
 
 -- the top word t becomes f t
-abbrev pub on_top : State → List ℕ → (ℕ → ℕ) → Turn
+abbrev pub on_top : State → List ℕ → (ℕ → ℕ) → Step
 on_top s [] f = Stops OperandUnder s
 on_top s (t ∷ rest) f = Goes (with_operands s (f t ∷ rest))
 
 -- the top word t and u below it become f u t
-abbrev pub on_two : State → List ℕ → (ℕ → ℕ → ℕ) → Turn
+abbrev pub on_two : State → List ℕ → (ℕ → ℕ → ℕ) → Step
 on_two s [] f = Stops OperandUnder s
 on_two s (t ∷ []) f = Stops OperandUnder s
 on_two s (t ∷ u ∷ rest) f = Goes (with_operands s (f u t ∷ rest))
 
 -- the same for a quotient or a remainder, which has no divisor 0
-abbrev pub divided : State → List ℕ → (ℕ → ℕ → ℕ) → Turn
+abbrev pub divided : State → List ℕ → (ℕ → ℕ → ℕ) → Step
 divided s [] f = Stops OperandUnder s
 divided s (t ∷ []) f = Stops OperandUnder s
 divided s (t ∷ u ∷ rest) f = if t == 0 then Stops DivideZero s else Goes (with_operands s (f u t ∷ rest))
 
 -- and for a signed one, where the least number isn't divided by -1
-abbrev pub divided_signed : State → List ℕ → (ℕ → ℕ → ℕ) → Turn
+abbrev pub divided_signed : State → List ℕ → (ℕ → ℕ → ℕ) → Step
 divided_signed s [] f = Stops OperandUnder s
 divided_signed s (t ∷ []) f = Stops OperandUnder s
 divided_signed s (t ∷ u ∷ rest) f = if t == 0 then Stops DivideZero s
     else (if (u == 2 ^ 31) && (t == 2 ^ 32 - 1) then Stops DivideOver s else Goes (with_operands s (f u t ∷ rest)))
 
 -- the top word t and u below it are taken; on to the instruction at v where f u t
-abbrev pub branched : ℕ → State → List ℕ → (ℕ → ℕ → Bool) → Turn
+abbrev pub branched : ℕ → State → List ℕ → (ℕ → ℕ → Bool) → Step
 branched v s [] f = Stops OperandUnder s
 branched v s (t ∷ []) f = Stops OperandUnder s
 branched v s (t ∷ u ∷ rest) f = if f u t then gone_to s rest v else gone_to s rest (s.next + 1)
 
 -- the top word t and u below it are taken, and the memory becomes f u t
-abbrev pub stored : State → List ℕ → (ℕ → ℕ → List ℕ) → Turn
+abbrev pub stored : State → List ℕ → (ℕ → ℕ → List ℕ) → Step
 stored s [] f = Stops OperandUnder s
 stored s (t ∷ []) f = Stops OperandUnder s
 stored s (t ∷ u ∷ rest) f = Goes (with_operands (with_memory s (f u t)) rest)
 
 -- ARG stores the top word at v from the program stack's place
-abbrev pub argued : ℕ → State → List ℕ → Turn
+abbrev pub argued : ℕ → State → List ℕ → Step
 argued v s [] = Stops OperandUnder s
 argued v s (t ∷ rest) = Goes (with_operands (with_memory s (store4 s.memory (plus s.program_stack v) t)) rest)
 
@@ -100,57 +101,57 @@ abbrev pub may_copy : ℕ → ℕ → ℕ → ℕ → Bool
 may_copy size to from len = (to % 4 == 0) && (from % 4 == 0) && (len % 4 == 0) && nat_le (to + len) size && nat_le (from + len) size
 
 -- BLOCK_COPY copies v bytes from the top word to the word below
-abbrev pub copied : ℕ → State → List ℕ → Turn
+abbrev pub copied : ℕ → State → List ℕ → Step
 copied v s [] = Stops OperandUnder s
 copied v s (t ∷ []) = Stops OperandUnder s
 copied v s (t ∷ u ∷ rest) = if may_copy (length s.memory) u t v then Goes (with_operands (with_memory s (copied_at s.memory u t v)) rest) else Stops CopyRange s
 
 -- the bottom of the program stack, which has 65,536 bytes where the block has as many
 abbrev pub bottom : State → ℕ
-bottom s = length s.memory - 65536
+bottom s = length s.memory - STACK_BYTES
 
 -- the end of a run: the top word is returned
-abbrev pub returned : State → List ℕ → Turn
+abbrev pub returned : State → List ℕ → Step
 returned s [] = Stops OperandUnder s
 returned s (t ∷ rest) = Stops (Returned t) s
 
 -- ENTER takes a frame of v bytes
-abbrev pub entered : ℕ → State → Turn
+abbrev pub entered : ℕ → State → Step
 entered v s = if nat_lt s.program_stack (bottom s + v) then Stops StackOver s
     else Goes (record { memory = s.memory; program_stack = s.program_stack - v; operands = s.operands; next = s.next + 1 })
 
 -- back to the return place r: -1 ends the run
-abbrev pub gone_back : ℕ → ℕ → ℕ → State → Turn
+abbrev pub gone_back : ℕ → ℕ → ℕ → State → Step
 gone_back count v r s = if r == (2 ^ 32 - 1) then returned s s.operands
     else (if nat_lt r count then Goes (record { memory = s.memory; program_stack = s.program_stack + v; operands = s.operands; next = r }) else Stops (JumpOut r) s)
 
 -- LEAVE gives a frame of v bytes back, and goes to the place that stands above it
-abbrev pub left : ℕ → ℕ → State → Turn
+abbrev pub left : ℕ → ℕ → State → Step
 left count v s = if nat_lt (length s.memory - 64) (s.program_stack + v) then Stops StackUnder s
     else gone_back count v (load4 s.memory (s.program_stack + v)) s
 
 -- JUMP goes to the instruction whose number is the top word
-abbrev pub jumped : ℕ → State → List ℕ → Turn
+abbrev pub jumped : ℕ → State → List ℕ → Step
 jumped count s [] = Stops OperandUnder s
 jumped count s (t ∷ rest) = if nat_lt t count then gone_to s rest t else Stops (JumpOut t) s
 
 -- trap k. No trap is known yet
-abbrev pub trapped : Table → ℕ → State → Turn
+abbrev pub trapped : Table → ℕ → State → Step
 trapped table k s = Stops (UnknownTrap k) s
 
 -- CALL of t, once the word is taken and the next instruction's number stored: a t that is negative is
 -- trap -1 - t, whose number is stored behind
-abbrev pub called_at : Table → ℕ → ℕ → State → Turn
+abbrev pub called_at : Table → ℕ → ℕ → State → Step
 called_at table count t s = if nat_lt t (2 ^ 31) then (if nat_lt t count then gone_to s s.operands t else Stops (JumpOut t) s)
     else trapped table (2 ^ 32 - 1 - t) (with_memory s (store4 s.memory (plus s.program_stack 4) (2 ^ 32 - 1 - t)))
 
-abbrev pub called : Table → ℕ → State → List ℕ → Turn
+abbrev pub called : Table → ℕ → State → List ℕ → Step
 called table count s [] = Stops OperandUnder s
 called table count s (t ∷ rest) =
     called_at table count t (record { memory = store4 s.memory s.program_stack (s.next + 1); program_stack = s.program_stack; operands = rest; next = s.next + 1 })
 
 -- one instruction, of an opcode and its operand v, among count
-abbrev pub act : Table → ℕ → Op → ℕ → State → Turn
+abbrev pub act : Table → ℕ → Op → ℕ → State → Step
 act table count Ignore v s = Goes (with_operands s s.operands)
 act table count Break v s = Goes (with_operands s s.operands)
 act table count Enter v s = entered v s
@@ -199,13 +200,13 @@ act table count Rshi v s = on_two s s.operands shifted_signed
 act table count Rshu v s = on_two s s.operands shifted_right
 
 -- the next instruction, or the end of the code
-abbrev pub act_at : Table → ℕ → Option Instr → State → Turn
+abbrev pub act_at : Table → ℕ → Option Instr → State → Step
 act_at table count None s = Stops FellOff s
 act_at table count (Some i) s = act table count i.op i.operand s
 
 -- the machine's step, over a host that answers the traps of this table
-abbrev pub turn : List Instr → Table → State → Turn
-turn code table s = act_at table (length code) (slice_get code s.next) s
+abbrev pub step : List Instr → Table → State → Step
+step code table s = act_at table (length code) (slice_get code s.next) s
 
 -- a run goes on, has stopped, or asks and finds no reply left
 pub data Ending : Type 0 where
@@ -224,17 +225,17 @@ pub record End : Type 0 where
 abbrev pub with_event : Event → End → End
 with_event e end = record { ending = end.ending; events = e ∷ end.events; state = end.state; left = end.left }
 
--- a turn over these replies, and how the run goes on
-abbrev pub after : Turn → List Reply → (State → List Reply → End) → End
+-- a step over these replies, and how the run goes on
+abbrev pub after : Step → List Reply → (State → List Reply → End) → End
 after (Goes s) replies go = go s replies
 after (Stops stop s) replies go = record { ending = Stopped stop; events = []; state = s; left = replies }
 after (Puts e s) replies go = with_event e (go s replies)
-after (Gives e s) replies go = record { ending = Stopped ModuleError; events = e ∷ []; state = s; left = replies }
+after (Raises e s) replies go = record { ending = Stopped ModuleError; events = e ∷ []; state = s; left = replies }
 after (Calls e s answered) [] go = record { ending = Asks; events = e ∷ []; state = s; left = [] }
 after (Calls e s answered) (r ∷ replies) go = with_event e (go (answered r) replies)
 
 -- at most n steps of any machine f
-unfoldable pub runs : (State → Turn) → ℕ → State → List Reply → End
+unfoldable pub runs : (State → Step) → ℕ → State → List Reply → End
 runs f zero s replies = record { ending = Going; events = []; state = s; left = replies }
 runs f (suc n) s replies = after (f s) replies (λ t left. runs f n t left)
 

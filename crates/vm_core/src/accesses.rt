@@ -1,64 +1,24 @@
-//! Loads, stores and copies.
-ghost use Rattle.std.specs.Prelude.{◌≡◌, ◌<◌, ◌^◌};
-ghost use Rattle.masked_mem.specs.Memory.{load1, load2, load4, store1, store2, store4};
-ghost use Rattle.vm_core.specs.Machine.{on_top, stored, argued, copied};
-ghost use Rattle.vm_core.specs.Module.{state_at, operands_at, IsTurn};
+//! Stores and copies.
+ghost use Rattle.std.specs.Prelude.{◌≡◌, ◌<◌, ◌^◌, ℕ, List};
+ghost use Rattle.vm_core.specs.Machine.{stored, argued, copied};
+ghost use Rattle.vm_core.specs.Module.{state_at, operands_at, IsStep, Stores};
 
 use crate::module::{Registers, Words};
-use crate::stack::{holds, push_at, word_at};
+use crate::stack::{holds, word_at};
 use crate::stop::Stop;
 use masked_mem::block::Block;
 use qv_base::word;
 
-/// LOAD1: the top word becomes the byte at that address.
-pub fn load_1(block: &Block, words: &mut Words, r: &mut Registers) -> Option<Stop>
-    requires { r.old.next < 2 ^ 31 }
-    ensures { IsTurn (on_top (state_at block.now words.old r.old) (operands_at words.old r.old) (load1 block.now)) block.now words.new r.new result }
-{
-    if !holds(words, r.top, 1) {
-        return Some(Stop::OperandUnder);
-    }
-    let t = word_at(words, r.top);
-    let word = block.load1(t);
-    r.top = push_at(words, r.top + 1, word);
-    r.next += 1;
-    None
-}
-
-/// LOAD2: the top word becomes the half word at that address.
-pub fn load_2(block: &Block, words: &mut Words, r: &mut Registers) -> Option<Stop>
-    requires { r.old.next < 2 ^ 31 }
-    ensures { IsTurn (on_top (state_at block.now words.old r.old) (operands_at words.old r.old) (load2 block.now)) block.now words.new r.new result }
-{
-    if !holds(words, r.top, 1) {
-        return Some(Stop::OperandUnder);
-    }
-    let t = word_at(words, r.top);
-    let word = block.load2(t);
-    r.top = push_at(words, r.top + 1, word);
-    r.next += 1;
-    None
-}
-
-/// LOAD4: the top word becomes the word at that address.
-pub fn load_4(block: &Block, words: &mut Words, r: &mut Registers) -> Option<Stop>
-    requires { r.old.next < 2 ^ 31 }
-    ensures { IsTurn (on_top (state_at block.now words.old r.old) (operands_at words.old r.old) (load4 block.now)) block.now words.new r.new result }
-{
-    if !holds(words, r.top, 1) {
-        return Some(Stop::OperandUnder);
-    }
-    let t = word_at(words, r.top);
-    let word = block.load4(t);
-    r.top = push_at(words, r.top + 1, word);
-    r.next += 1;
-    None
-}
-
-/// STORE1: stores the top word's low byte at the address below it.
-pub fn store_1(block: &mut Block, words: &Words, r: &mut Registers) -> Option<Stop>
-    requires { r.old.next < 2 ^ 31 }
-    ensures { IsTurn (stored (state_at block.old words.now r.old) (operands_at words.now r.old) (store1 block.old)) block.new words.now r.new result }
+/// Stores the top word at the address below it, by `store`, which takes the address and then the word.
+pub fn store<F: FnOnce(&mut Block, u32, u32)>(
+    block: &mut Block,
+    words: &Words,
+    r: &mut Registers,
+    store: F,
+) -> Option<Stop>
+    requires next { r.old.next < 2 ^ 31 }
+    requires callable { F.IsAlwaysCallable store }
+    ensures { (g : List ℕ → ℕ → ℕ → List ℕ) → Stores (F.post store) g → IsStep (stored (state_at block.old words.now r.old) (operands_at words.now r.old) (g block.old)) block.new words.now r.new result }
 {
     if !holds(words, r.top, 2) {
         return Some(Stop::OperandUnder);
@@ -66,39 +26,7 @@ pub fn store_1(block: &mut Block, words: &Words, r: &mut Registers) -> Option<St
     let t = word_at(words, r.top);
     let s = word_at(words, r.top + 1);
     r.top += 2;
-    block.store1(s, t);
-    r.next += 1;
-    None
-}
-
-/// STORE2: stores the top word's low half word at the address below it.
-pub fn store_2(block: &mut Block, words: &Words, r: &mut Registers) -> Option<Stop>
-    requires { r.old.next < 2 ^ 31 }
-    ensures { IsTurn (stored (state_at block.old words.now r.old) (operands_at words.now r.old) (store2 block.old)) block.new words.now r.new result }
-{
-    if !holds(words, r.top, 2) {
-        return Some(Stop::OperandUnder);
-    }
-    let t = word_at(words, r.top);
-    let s = word_at(words, r.top + 1);
-    r.top += 2;
-    block.store2(s, t);
-    r.next += 1;
-    None
-}
-
-/// STORE4: stores the top word at the address below it.
-pub fn store_4(block: &mut Block, words: &Words, r: &mut Registers) -> Option<Stop>
-    requires { r.old.next < 2 ^ 31 }
-    ensures { IsTurn (stored (state_at block.old words.now r.old) (operands_at words.now r.old) (store4 block.old)) block.new words.now r.new result }
-{
-    if !holds(words, r.top, 2) {
-        return Some(Stop::OperandUnder);
-    }
-    let t = word_at(words, r.top);
-    let s = word_at(words, r.top + 1);
-    r.top += 2;
-    block.store4(s, t);
+    store(block, s, t);
     r.next += 1;
     None
 }
@@ -106,7 +34,7 @@ pub fn store_4(block: &mut Block, words: &Words, r: &mut Registers) -> Option<St
 /// ARG: stores the top word at `offset` from the program stack's place.
 pub fn argument(block: &mut Block, words: &Words, r: &mut Registers, offset: u32) -> Option<Stop>
     requires { r.old.next < 2 ^ 31 }
-    ensures { IsTurn (argued offset (state_at block.old words.now r.old) (operands_at words.now r.old)) block.new words.now r.new result }
+    ensures { IsStep (argued offset (state_at block.old words.now r.old) (operands_at words.now r.old)) block.new words.now r.new result }
 {
     if !holds(words, r.top, 1) {
         return Some(Stop::OperandUnder);
@@ -121,7 +49,7 @@ pub fn argument(block: &mut Block, words: &Words, r: &mut Registers, offset: u32
 /// BLOCK_COPY: copies `len` bytes from the top word `t` to the word `s` below it.
 pub fn block_copy(block: &mut Block, words: &Words, r: &mut Registers, len: u32) -> Option<Stop>
     requires { r.old.next < 2 ^ 31 }
-    ensures { IsTurn (copied len (state_at block.old words.now r.old) (operands_at words.now r.old)) block.new words.now r.new result }
+    ensures { IsStep (copied len (state_at block.old words.now r.old) (operands_at words.now r.old)) block.new words.now r.new result }
 {
     if !holds(words, r.top, 2) {
         return Some(Stop::OperandUnder);

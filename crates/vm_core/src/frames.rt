@@ -3,12 +3,13 @@ ghost use Rattle.std.specs.Prelude.{ℕ, List, ◌≡◌, ◌<◌, ◌^◌};
 ghost use Rattle.qv_base.specs.Word.{plus};
 ghost use Rattle.qv_outside.specs.Hosts.{Table};
 ghost use Rattle.vm_core.specs.Machine.{entered, left, called, jumped, pushed, popped};
-ghost use Rattle.vm_core.specs.Module.{state_at, operands_at, IsTurn, IsRow};
+ghost use Rattle.vm_core.specs.Module.{state_at, operands_at, IsStep, IsRow};
 
 use crate::module::{Registers, Words};
 use crate::stack::{holds, is_full, push_at, word_at};
 use crate::stop::Stop;
 use masked_mem::block::Block;
+use qv_base::limits::STACK_BYTES;
 use qv_base::word;
 
 // The return place of the entry frame, which ends a run.
@@ -20,9 +21,9 @@ const FIRST_NEGATIVE: u32 = 1 << 31;
 /// ENTER: takes a frame of `size` bytes.
 pub fn enter(block: &Block, r: &mut Registers, size: u32) -> Option<Stop>
     requires { r.old.next < 2 ^ 31 }
-    ensures { (words : List ℕ) → IsTurn (entered size (state_at block.now words r.old)) block.now words r.new result }
+    ensures { (words : List ℕ) → IsStep (entered size (state_at block.now words r.old)) block.now words r.new result }
 {
-    let bottom = block.size().saturating_sub(65536);
+    let bottom = block.size().saturating_sub(STACK_BYTES);
     if u64::from(r.program_stack) < u64::from(bottom) + u64::from(size) {
         return Some(Stop::StackOver);
     }
@@ -40,7 +41,7 @@ pub fn leave(
     size: u32,
 ) -> Option<Stop>
     requires { r.old.next < 2 ^ 31 }
-    ensures { IsTurn (left count size (state_at block.now words.now r.old)) block.now words.now r.new result }
+    ensures { IsStep (left count size (state_at block.now words.now r.old)) block.now words.now r.new result }
 {
     let top = block.size() - 64;
     if u64::from(top) < u64::from(r.program_stack) + u64::from(size) {
@@ -66,7 +67,7 @@ pub fn leave(
 /// word. A negative one is a trap's, whose number is stored behind.
 pub fn call(block: &mut Block, words: &Words, r: &mut Registers, count: usize) -> Option<Stop>
     requires { r.old.next < 2 ^ 31 }
-    ensures { (table : Table) → IsTurn (called table count (state_at block.old words.now r.old) (operands_at words.now r.old)) block.new words.now r.new result }
+    ensures { (table : Table) → IsStep (called table count (state_at block.old words.now r.old) (operands_at words.now r.old)) block.new words.now r.new result }
 {
     if !holds(words, r.top, 1) {
         return Some(Stop::OperandUnder);

@@ -6,13 +6,14 @@ ghost use Rattle.vm_core.specs.Memory.{block_size};
 
 use masked_mem::block::Block;
 use qv_base::NoMemory;
+use qv_base::limits::BLOCK_BYTES;
 use qv_image::image::Image;
 use std::alloc::Global;
 
 /// The binary logarithm of a block's size for so many bytes: the size is the least power of two that is
 /// at least 64 and at least `need`.
 fn log2_for(need: u32) -> u8
-    requires { need ≤ 2 ^ 26 }
+    requires { need ≤ BLOCK_BYTES }
     ensures size { 2 ^ result ≡ block_size need }
     ensures low { 6 ≤ result }
     ensures high { result ≤ 26 }

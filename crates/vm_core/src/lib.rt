@@ -5,7 +5,6 @@
 mod accesses;
 mod arithmetic;
 mod branches;
-mod division;
 mod entry;
 mod frames;
 mod fresh;

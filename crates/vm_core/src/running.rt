@@ -3,9 +3,9 @@ ghost use Rattle.std.specs.Prelude.{◌≡◌, ◌≢◌, IsTrue, ◌↔◌, ◌
 ghost use Rattle.qv_image.specs.Shown.{qvm_of};
 ghost use Rattle.qv_outside.specs.Causes.{Rose};
 ghost use Rattle.qv_outside.specs.Hosts.{Table};
-ghost use Rattle.vm_core.specs.Machine.{turn, started, fresh_memory};
+ghost use Rattle.vm_core.specs.Machine.{step, started, fresh_memory};
 ghost use Rattle.vm_core.specs.Module.{code_of, state_of, state_at, ready_of};
-ghost use Rattle.vm_core.specs.Ran.{Ran, Outside, outside, close_of};
+ghost use Rattle.vm_core.specs.Ran.{Ran, Outside, outside, outcome_of};
 
 use crate::entry::entry_frame;
 use crate::fresh::fresh_block;
@@ -87,7 +87,7 @@ impl Module {
     #[inline(never)]
     pub fn run<H: Host, O: Sink>(&mut self, n: u64, host: &mut H, out: &mut O) -> Stop
         requires ready { ready_of self.old ≡ true }
-        ensures ran { Ran (turn (code_of self.old) (H.table host.old)) n (state_of self.old) (state_of self.new) (outside (H.asked host.old) (H.replied host.old) (O.written out.old)) (outside (H.asked host.new) (H.replied host.new) (O.written out.new)) (close_of result) }
+        ensures ran { Ran (step (code_of self.old) (H.table host.old)) n (state_of self.old) (state_of self.new) (outside (H.asked host.old) (H.replied host.old) (O.written out.old)) (outside (H.asked host.new) (H.replied host.new) (O.written out.new)) (outcome_of result) }
         ensures code { code_of self.new ≡ code_of self.old }
         ensures ready { IsTrue (ready_of self.new) ↔ (result ≡ Stop.Budget) }
         ensures kept { H.kept host.new ≡ H.kept host.old }
@@ -99,7 +99,7 @@ impl Module {
     {
         let mut words = self.words;
         let mut registers = self.registers;
-        let stop = turns(&self.code, &mut self.block, &mut words, &mut registers, n);
+        let stop = run_steps(&self.code, &mut self.block, &mut words, &mut registers, n);
         self.words = words;
         self.registers = registers;
         self.ready = matches!(stop, Stop::Budget);
@@ -115,7 +115,7 @@ impl Module {
         out: &mut O,
     ) -> Stop
         requires ready { ready_of self.old ≡ true }
-        ensures ran { Ran (turn (code_of self.old) (H.table host.old)) (sum budgets.now) (state_of self.old) (state_of self.new) (outside (H.asked host.old) (H.replied host.old) (O.written out.old)) (outside (H.asked host.new) (H.replied host.new) (O.written out.new)) (close_of result) }
+        ensures ran { Ran (step (code_of self.old) (H.table host.old)) (sum budgets.now) (state_of self.old) (state_of self.new) (outside (H.asked host.old) (H.replied host.old) (O.written out.old)) (outside (H.asked host.new) (H.replied host.new) (O.written out.new)) (outcome_of result) }
         ensures code { code_of self.new ≡ code_of self.old }
         ensures ready { IsTrue (ready_of self.new) ↔ (result ≡ Stop.Budget) }
         ensures kept { H.kept host.new ≡ H.kept host.old }
@@ -137,9 +137,15 @@ impl Module {
 
 // At most n steps, counted down to make the loop short. No instruction asks the host or puts anything
 // yet.
-fn turns(code: &[Instr], block: &mut Block, words: &mut Words, r: &mut Registers, n: u64) -> Stop
+fn run_steps(
+    code: &[Instr],
+    block: &mut Block,
+    words: &mut Words,
+    r: &mut Registers,
+    n: u64,
+) -> Stop
     requires { length code.now < 2 ^ 31 }
-    ensures ran { (table : Table) (told : Outside) → Ran (turn code.now table) n (state_at block.old words.old r.old) (state_at block.new words.new r.new) told told (close_of result) }
+    ensures ran { (table : Table) (told : Outside) → Ran (step code.now table) n (state_at block.old words.old r.old) (state_at block.new words.new r.new) told told (outcome_of result) }
     ensures no_host_fault { result ≢ Stop.HostFault }
     ensures no_out_fault { result ≢ Stop.OutFault }
 {

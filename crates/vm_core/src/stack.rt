@@ -10,8 +10,7 @@ pub fn holds(words: &Words, top: usize, count: usize) -> bool
     ensures test { result ≡ nat_le count (length (drop top words.now)) }
     ensures room { IsTrue result → top + count ≤ 256 }
 {
-    let _words = words;
-    top <= 256 - count
+    top <= words.len() - count
 }
 
 /// Whether there is no room for another word.
@@ -20,8 +19,7 @@ pub fn is_full(words: &Words, top: usize) -> bool
     ensures test { result ≡ nat_le 256 (length (drop top words.now)) }
     ensures room { IsFalse result → 0 < top }
 {
-    let _words = words;
-    top == 0
+    words[top..].len() == words.len()
 }
 
 /// The word that stands at `top`.

@@ -2,14 +2,13 @@
 ghost use Rattle.std.specs.Prelude.{◌≡◌, ◌<◌, ◌≤◌, IsTrue, IfOk, length};
 ghost use Rattle.std.specs.List.{list_all};
 ghost use Rattle.qv_ops.specs.Code.{is_encodable, stays_within};
-ghost use Rattle.qv_ops.specs.Table.{is_branch};
 
 use crate::module::Module;
 use crate::stop::Stop;
 use qv_base::NoMemory;
 use qv_image::image::Image;
 use qv_ops::instr::Instr;
-use qv_ops::op::{Op, width};
+use qv_ops::op::{Op, is_branch, width};
 use qv_outside::fixed_host::FixedHost;
 use qv_outside::mem_sink::MemSink;
 use std::alloc::Global;
@@ -74,24 +73,6 @@ fn is_encodable(instr: Instr) -> bool
         1 => instr.operand < 256,
         _ => true,
     }
-}
-
-fn is_branch(op: Op) -> bool
-    ensures { result ≡ is_branch op }
-{
-    matches!(
-        op,
-        Op::Eq
-            | Op::Ne
-            | Op::Lti
-            | Op::Lei
-            | Op::Gti
-            | Op::Gei
-            | Op::Ltu
-            | Op::Leu
-            | Op::Gtu
-            | Op::Geu
-    )
 }
 
 fn all_encodable(code: &[Instr]) -> bool

@@ -16,5 +16,5 @@ invariant_of-result c =
       code_fits = rw c.requires.code (code_fits all c.requires.well);
       encodable = rw c.requires.code (encodable all c.requires.well c.args.tables.now.carried);
       branches_within = rw c.requires.code (branches_within all c.requires.well);
-      block_fits = rw (c.in_ok-pad.ensures, c.requires.data_part, c.in_ok-pad-2.ensures, c.requires.lit, c.rounded.ensures, bss) (block_fits all c.requires.end);
+      block_fits = rw (c.in_ok-pad.ensures, c.requires.data_part, c.in_ok-pad-2.ensures, c.requires.lit, c.rounded.ensures, c.from.ensures, bss) (block_fits all c.requires.end);
     }

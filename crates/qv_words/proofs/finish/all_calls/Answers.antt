@@ -6,4 +6,4 @@ use Rattle.qv_words.proofs.finish.all_calls.Goals as goal
 pub returns-clause-calls : goal.returns-clause-calls
 returns-clause-calls c =
     let P : List (List ℕ) → Type 0 = λ all. AreCalls all in
-    subst P (sym c.in_ok-push.ensures.items) (calls_are c.args.calls.ended.items c.args.calls.words c.args.calls.few c.args.calls.whole c.args.calls.last)
+    subst P (sym c.in_ok-push.ensures.items) (calls_are c.args.calls.earlier.items c.args.calls.last c.args.calls.at_most c.args.calls.are_calls c.args.calls.is_last)

@@ -6,9 +6,9 @@ pub invariant_of-calls : goal.invariant_of-calls
 invariant_of-calls c =
     let small : c.args.word < 2 ^ 32 = omega (arith, c.ranges.word) in
     record {
-      few = c.args.calls.now.few;
-      whole = c.args.calls.now.whole;
+      at_most = c.args.calls.now.at_most;
+      are_calls = c.args.calls.now.are_calls;
       within = omega (arith, c.requires);
-      zeros = zeros_behind c.args.calls.now.words c.args.calls.now.count c.args.word c.args.calls.now.zeros;
-      last = is_call-set c.args.calls.now.words c.args.calls.now.count c.args.word c.args.calls.now.last small;
+      zeros = zeros_behind c.args.calls.now.last c.args.calls.now.count c.args.word c.args.calls.now.zeros;
+      is_last = is_call-set c.args.calls.now.last c.args.calls.now.count c.args.word c.args.calls.now.is_last small;
     }
