@@ -1,6 +1,7 @@
 -- The text of lines.
-use Rattle.std.specs.Prelude.{ℕ, List, [], ◌∷◌, ◌++◌, codes, flat_map}
+use Rattle.std.specs.Prelude.{ℕ, List, ◌++◌, codes, map}
 use Rattle.std.specs.Fmt.{decimal}
+use Rattle.asm_line.specs.Text.{text_of}
 use Rattle.qasm_write.specs.declared.line.UnitLine.{UnitLine}
 use Rattle.qasm_write.specs.declared.line.UnitLine.TheVariants.{Open, Parameter, Load, Constant, Add, Subtract, Return, Close}
 
@@ -17,4 +18,4 @@ line_text Close = codes "endproc vmMain 0 0"
 
 -- each line with its line feed
 abbrev pub unit_text : List UnitLine → List ℕ
-unit_text lines = flat_map (λ l. line_text l ++ 10 ∷ []) lines
+unit_text lines = text_of (map line_text lines)
