@@ -79,8 +79,8 @@ pub fn write_fault(alloc: Global, name: &str) -> Result<Report, NoMemory>
     })
 }
 
-/// The module's call came to this stop.
-pub fn ended(alloc: Global, stop: Stop) -> Result<Report, NoMemory>
+/// The calls came to their end by this stop.
+pub fn calls_ended(alloc: Global, stop: Stop) -> Result<Report, NoMemory>
     ensures { IfOk result (λ report. Says (stop_status stop) (stop_line stop) report) }
 {
     let line = match stop {
@@ -111,29 +111,29 @@ fn stop_text(alloc: Global, stop: Stop) -> Result<String, NoMemory>
     ensures { IfOk result (λ text. string_bytes text ≡ stop_text stop) }
 {
     match stop {
-        Stop::Returned(_) => plain(alloc, "returned"),
-        Stop::Budget => plain(alloc, "budget used"),
-        Stop::ModuleError => plain(alloc, "module error"),
-        Stop::OperandOver => plain(alloc, "operand stack over"),
-        Stop::OperandUnder => plain(alloc, "operand stack under"),
-        Stop::StackOver => plain(alloc, "program stack over"),
-        Stop::StackUnder => plain(alloc, "program stack under"),
+        Stop::Returned(_) => copied(alloc, "returned"),
+        Stop::Budget => copied(alloc, "budget used"),
+        Stop::ModuleError => copied(alloc, "module error"),
+        Stop::OperandOver => copied(alloc, "operand stack over"),
+        Stop::OperandUnder => copied(alloc, "operand stack under"),
+        Stop::StackOver => copied(alloc, "program stack over"),
+        Stop::StackUnder => copied(alloc, "program stack under"),
         Stop::JumpOut(number) => Ok(format!(in alloc; "jump out {number}")?),
-        Stop::FellOff => plain(alloc, "fell off"),
-        Stop::DivideZero => plain(alloc, "divide zero"),
-        Stop::DivideOver => plain(alloc, "divide over"),
-        Stop::CopyRange => plain(alloc, "copy range"),
+        Stop::FellOff => copied(alloc, "fell off"),
+        Stop::DivideZero => copied(alloc, "divide zero"),
+        Stop::DivideOver => copied(alloc, "divide over"),
+        Stop::CopyRange => copied(alloc, "copy range"),
         Stop::UnknownTrap(number) => Ok(format!(in alloc; "unknown trap {number}")?),
         Stop::TrapRange { number, argument } => {
             Ok(format!(in alloc; "trap {number} argument {argument} outside")?)
         }
-        Stop::HostFault => plain(alloc, "host fault"),
-        Stop::OutFault => plain(alloc, "out fault"),
+        Stop::HostFault => copied(alloc, "host fault"),
+        Stop::OutFault => copied(alloc, "out fault"),
     }
 }
 
 /// A text of its own.
-pub fn plain(alloc: Global, text: &str) -> Result<String, NoMemory>
+pub fn copied(alloc: Global, text: &str) -> Result<String, NoMemory>
     ensures { IfOk result (λ copy. string_bytes copy ≡ text.now) }
 {
     Ok(String::from_str(alloc, text)?)
