@@ -1,5 +1,5 @@
 -- The causes of reports, by what the parts of a command answer.
-use Rattle.std.proofs.Common.{◌≡◌, ◌≤◌, ℕ, List, Option, Some, Ok, Err, refl, sym, ap, ◌∙◌, subst, is_some, arith}
+use Rattle.std.proofs.Common.{◌≡◌, ◌≤◌, ℕ, List, Option, Some, Ok, Err, refl, sym, ap, subst, is_some, arith}
 use Rattle.std.specs.Prelude.{Result, IfOk, IfSome, IsErrOf, ◌++◌, codes}
 use Rattle.std.specs.Global.{Vec}
 use Rattle.qv_base.specs.declared.NoMemory.{NoMemory as Wanting}
@@ -16,7 +16,7 @@ use Rattle.vm_core.specs.declared.stop.Stop.{Stop}
 use Rattle.vm_core.specs.declared.stop.Stop.TheVariants.{Returned, Budget as StepsUsed}
 use Rattle.qv_tool.specs.declared.report.Report.{Report}
 use Rattle.qv_tool.specs.declared.status.Status.{Status}
-use Rattle.qv_tool.specs.declared.status.Status.TheVariants.{Done, Usage, Missing, NotYet, Assembly, Image, Stopped, Budget, ReadFault, WriteFault, NoMemory}
+use Rattle.qv_tool.specs.declared.status.Status.TheVariants.{Done, Missing, Assembly, Image, ReadFault, WriteFault}
 use Rattle.qv_tool.specs.Causes.{HasCause, IsServed, Keeper, ReadsUnit}
 use Rattle.qv_tool.specs.Assembly.{fault_text}
 use Rattle.qv_tool.specs.Damage.{damage_text}

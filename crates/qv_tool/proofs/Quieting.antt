@@ -1,5 +1,5 @@
 -- What stays as it is outside of the files.
-use Rattle.std.proofs.Common.{◌≡◌, ℕ, List, Option, refl, ap}
+use Rattle.std.proofs.Common.{◌≡◌, ℕ, List, Option, ap}
 use Rattle.qv_outside.specs.Event.{Event, Reply}
 use Rattle.qv_outside.specs.Hosts.{Table}
 use Rattle.qv_tool.specs.Quiet.{Surroundings, surroundings}

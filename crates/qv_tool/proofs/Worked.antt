@@ -26,7 +26,7 @@ use Rattle.qv_tool.specs.Ending.{line, Tells}
 use Rattle.qv_tool.specs.Names.{names_in}
 use Rattle.qv_tool.specs.Task.{Task, AssembleList, task_of}
 use Rattle.qv_tool.specs.Verdict.{Verdict, Unready, Damaged, Runs, Builds, IsRefusal, name_at, named_in, of_linked, of_list, of_source, of_task, refusal_of, verdict}
-use Rattle.qv_tool.specs.Work.{Asks, Delivers, IsDelivered, IsRefused, IsUnread, Leaves, Says, SaysDamaged, SaysUnlinked, SaysUnread, Stores, Works}
+use Rattle.qv_tool.specs.Work.{Asks, Delivers, IsDelivered, IsRefused, IsUnread, Says, SaysDamaged, SaysUnlinked, SaysUnread, Stores, Works}
 use Rattle.qv_tool.proofs.Causing.{cause_since, damaged_cause, delivered_cause, ok_unread, said_cause, served_by, told_cause, unlinked_cause, unread_cause, unready_unit, unstored_cause}
 use Rattle.qv_tool.proofs.Damaging.{damaged_leaves}
 use Rattle.qv_tool.proofs.Linking.{bad_list_leaves, list_leaves, unfound_leaves, unlinked_leaves}

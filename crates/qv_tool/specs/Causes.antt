@@ -3,8 +3,8 @@ use Rattle.std.specs.Prelude.{◌≡◌, ℕ, List, Option, Some, None, IfSome, 
 use Rattle.qv_outside.specs.Causes.{Rose}
 use Rattle.qv_outside.specs.FileMap.{FileMap}
 use Rattle.qv_tool.specs.declared.status.Status.{Status}
-use Rattle.qv_tool.specs.declared.status.Status.TheVariants.{Done, Usage, Missing, NotYet, Assembly, Image, Stopped, Budget, ReadFault, WriteFault, NoMemory}
-use Rattle.qv_tool.specs.Task.{Task, Compile, Assemble, AssembleList, Disassemble, Run, Build, task_of}
+use Rattle.qv_tool.specs.declared.status.Status.TheVariants.{Usage, NotYet, ReadFault, WriteFault, NoMemory}
+use Rattle.qv_tool.specs.Task.{Task, Compile, Build, task_of}
 use Rattle.qv_words.specs.Words.{Command}
 
 -- what a keeper of files tells: the files, the name of the last call that failed, and how many reads and writes failed

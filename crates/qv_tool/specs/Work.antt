@@ -17,7 +17,7 @@ use Rattle.qcc_front.specs.Follows.{Follows}
 use Rattle.qcc_front.specs.Sum.{Sum, sum_run}
 use Rattle.qv_tool.specs.declared.report.Report.{Report}
 use Rattle.qv_tool.specs.declared.status.Status.{Status}
-use Rattle.qv_tool.specs.declared.status.Status.TheVariants.{Done, Usage, Missing, NotYet, Assembly, Image, Stopped, Budget, ReadFault, WriteFault, NoMemory as StatusNoMemory}
+use Rattle.qv_tool.specs.declared.status.Status.TheVariants.{Done, Missing, Assembly, Image, ReadFault, WriteFault}
 use Rattle.qv_tool.specs.Answers.{Reports, Wrote}
 use Rattle.qv_tool.specs.Causes.{HasCause, Keeper}
 use Rattle.qv_tool.specs.Assembly.{fault_text}

@@ -10,7 +10,7 @@ use Rattle.qv_tool.specs.declared.gather.Sources.{Sources}
 use Rattle.qv_tool.specs.Verdict.{Links, of_linked}
 use Rattle.qv_tool.specs.Work.{Gathers, HasCount, RefusesUnread}
 use Rattle.qv_tool.proofs.Linking.{found_goes}
-use Rattle.qv_tool.proofs.Worked.{delivered_works, unfound_works, unlinked_works, unwritten_works}
+use Rattle.qv_tool.proofs.Worked.{delivered_works, unfound_works, unlinked_works}
 use Rattle.qv_tool.proofs.Working.{verdict_on}
 use Rattle.qv_tool.proofs.q3asm.q3asm.Goals as goal
 

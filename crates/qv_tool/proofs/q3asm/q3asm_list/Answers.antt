@@ -1,12 +1,12 @@
-use Rattle.std.proofs.Common.{◌≡◌, ◌∙◌, Some, Ok, Err, map, string_bytes, sym, ap, subst}
+use Rattle.std.proofs.Common.{◌≡◌, ◌∙◌, Ok, map, string_bytes, sym, ap, subst}
 use Rattle.qv_tool.specs.declared.list.Listed.{Listed}
 use Rattle.qv_tool.specs.Names.{names_in}
 use Rattle.qv_tool.specs.Verdict.{of_list, of_task}
 use Rattle.qv_tool.specs.Work.{IsListed}
 use Rattle.qv_tool.proofs.Causing.{served_by}
 use Rattle.qv_tool.proofs.Linking.{list_asked, list_goes}
-use Rattle.qv_tool.proofs.Worked.{bad_list_works, listed_works, unread_works, unwritten_works}
-use Rattle.qv_tool.proofs.Working.{if_told, needs_list, read_stays}
+use Rattle.qv_tool.proofs.Worked.{listed_works, unread_works}
+use Rattle.qv_tool.proofs.Working.{if_told, needs_list}
 use Rattle.qv_tool.proofs.q3asm.q3asm_list.Goals as goal
 
 pub returns-in-Err : goal.returns-in-Err

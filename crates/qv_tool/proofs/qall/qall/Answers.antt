@@ -7,7 +7,7 @@ use Rattle.qv_tool.specs.Answers.{IsFollower}
 use Rattle.qv_tool.specs.Verdict.{Verdict, Builds, of_task, of_unit}
 use Rattle.qv_tool.proofs.Causing.{served_by}
 use Rattle.qv_tool.proofs.Playing.{ok_value}
-use Rattle.qv_tool.proofs.Worked.{built_works, torn_works, unread_works, unready_works, unstored_works, unwritten_works}
+use Rattle.qv_tool.proofs.Worked.{built_works, torn_works, unread_works}
 use Rattle.qv_tool.proofs.Working.{if_told, needs_one, read_goes, read_stays, verdict_on}
 use Rattle.qv_tool.proofs.qall.qall.Goals as goal
 

@@ -3,10 +3,10 @@ use Rattle.qv_outside.specs.FileMap.{FileMap}
 use Rattle.qcc_front.specs.Assembles.{Assembles}
 use Rattle.qcc_front.specs.FirstForm.{unit_of}
 use Rattle.qcc_front.specs.Unit.{sum_of}
-use Rattle.qv_tool.specs.Task.{Compile, text_name}
+use Rattle.qv_tool.specs.Task.{text_name}
 use Rattle.qv_tool.specs.Verdict.{Verdict, Compiles, of_task, of_unit}
 use Rattle.qv_tool.proofs.Causing.{served_by}
-use Rattle.qv_tool.proofs.Worked.{delivered_works, unread_works, unready_works, unwritten_works}
+use Rattle.qv_tool.proofs.Worked.{delivered_works, unread_works}
 use Rattle.qv_tool.proofs.Working.{if_told, needs_one, read_goes, read_stays, verdict_on}
 use Rattle.qv_tool.proofs.qcc.qcc.Goals as goal
 

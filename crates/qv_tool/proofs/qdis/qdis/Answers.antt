@@ -5,7 +5,7 @@ use Rattle.qv_image.specs.Shown.{qvm_of}
 use Rattle.qv_outside.specs.FileMap.{FileMap}
 use Rattle.qv_tool.specs.Verdict.{Verdict, Disassembles, of_text, of_task}
 use Rattle.qv_tool.proofs.Causing.{served_by}
-use Rattle.qv_tool.proofs.Worked.{damaged_works, delivered_works, unread_works, unwritten_works}
+use Rattle.qv_tool.proofs.Worked.{damaged_works, delivered_works, unread_works}
 use Rattle.qv_tool.proofs.Working.{if_told, needs_one, read_goes, read_stays, verdict_on}
 use Rattle.qv_tool.proofs.qdis.qdis.Goals as goal
 
