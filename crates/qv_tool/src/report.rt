@@ -20,31 +20,30 @@ pub struct Report {
 pub fn done(alloc: Global) -> Result<Report, NoMemory>
     ensures { IfOk result (λ report. Says Status.Done (line (codes "done")) report) }
 {
-    let line = format!(in alloc; "done\n")?;
-    Ok(Report {
-        status: Status::Done,
-        line: line.into_bytes(),
-    })
+    say(alloc, Status::Done, "done")
 }
 
 /// The words stand for no command.
 pub fn usage(alloc: Global) -> Result<Report, NoMemory>
     ensures { IfOk result (λ report. Says Status.Usage (line (codes "usage")) report) }
 {
-    let line = format!(in alloc; "usage\n")?;
-    Ok(Report {
-        status: Status::Usage,
-        line: line.into_bytes(),
-    })
+    say(alloc, Status::Usage, "usage")
 }
 
 /// The command or the file is of a form that isn't served yet.
 pub fn not_yet(alloc: Global) -> Result<Report, NoMemory>
     ensures { IfOk result (λ report. Says Status.NotYet (line (codes "not yet")) report) }
 {
-    let line = format!(in alloc; "not yet\n")?;
+    say(alloc, Status::NotYet, "not yet")
+}
+
+// The status, told by this text.
+fn say(alloc: Global, status: Status, text: &str) -> Result<Report, NoMemory>
+    ensures { IfOk result (λ report. Says status (line text.now) report) }
+{
+    let line = format!(in alloc; "{text}\n")?;
     Ok(Report {
-        status: Status::NotYet,
+        status,
         line: line.into_bytes(),
     })
 }
