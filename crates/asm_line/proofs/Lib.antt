@@ -1,3 +1,5 @@
 pub mod Text
-pub mod Numbers
+pub mod Spaced
 pub mod Operands
+pub mod Numbers
+pub mod Written

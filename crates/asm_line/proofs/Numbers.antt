@@ -1,9 +1,11 @@
--- Numbers written in decimal are read back.
-use Rattle.std.proofs.Common.{◌≡◌, ℕ, zero, suc, ◌-◌, ◌<◌, ◌≤◌, ◌^◌, Bool, true, false, ◌&&◌, List, [], ◌∷◌, length, refl, ap, ◌∙◌, arith, rules}
+-- Numbers as they are written, and read back.
+use Rattle.std.proofs.Common.{◌≡◌, ℕ, zero, suc, ◌-◌, ◌%◌, ◌<◌, ◌≤◌, ◌^◌, Bool, true, false, ◌&&◌, List, [], ◌∷◌, length, refl, ap, ◌∙◌, arith, rules}
 use Rattle.std.specs.Prelude.{IsTrue, Some, None, option_map, if◌then◌else◌, nat_le, nat_lt, not, ◌==◌}
 use Rattle.std.specs.List.{list_all}
 use Rattle.std.specs.Str.{all_ascii_digits}
-use Rattle.std.specs.Fmt.{decimal}
+use Rattle.std.specs.Fmt.{decimal, signed_decimal}
+use Rattle.std.specs.Int.{cast_signed, w32}
+use Rattle.std.proofs.Math.Nat.{mod-eq_of_lt}
 use Rattle.std.proofs.lemmas.Bool.Decides.{nat_tests}
 use Rattle.std.proofs.lemmas.Str.Parse.{IsNumeralModel, numerals_by_fold}
 use Rattle.std.proofs.lemmas.Fmt.{decimal_nonempty, digits_decimal, digits_value-decimal}
@@ -13,7 +15,10 @@ use Rattle.qv_base.specs.Word.{negated}
 use Rattle.asm_line.specs.Operand.{expression, is_name, is_name_byte, is_sign, number_of}
 use Rattle.asm_line.specs.Row.{constant}
 use Rattle.asm_line.specs.Text.{is_word_byte}
-use Rattle.asm_line.proofs.Operands.{expression-number, pieces-plain}
+use Rattle.asm_line.proofs.Operands.{expression-number, pieces-plain, pieces-signed}
+use Rattle.asm_line.proofs.Spaced.{IsWord}
+use mir.Val.{sel}
+use lib.IntN.{pos, negsuc}
 
 own : IsNumeralModel (λ ds. all_ascii_digits ds ≡ true) (decimal_from 0)
 own = numerals_by_fold _ (search rules) decimal_from (search rules)
@@ -86,6 +91,10 @@ number_of-decimal n h =
 pub number_of-negative : (n : ℕ) → n ≤ 2 ^ 31 → number_of (45 ∷ decimal n) ≡ Some (negated n)
 number_of-negative n h = ap (option_map negated) (decimal_up_to-decimal (2 ^ 31) n (omega arith) h)
 
+-- none is a sign
+decimal_unsigned : (n : ℕ) → n < 2 ^ 64 → IsTrue (list_all (λ b. not (is_sign b)) (decimal n))
+decimal_unsigned n h = digits_pass (λ b. not (is_sign b)) (λ c d. grind (arith, nat_tests)) (decimal n) (digits_decimal own n h)
+
 no_name : (ds : List ℕ) → 0 < length ds → all_ascii_digits ds ≡ true → is_name ds ≡ false
 no_name [] some a = absurd (omega arith)
 no_name (c ∷ cs) some a = ap (λ k. not k && list_all is_name_byte (c ∷ cs)) (first_is c cs a).0
@@ -96,10 +105,49 @@ expression-decimal n h =
     let big : n < 2 ^ 64 = omega arith in
     let digits : all_ascii_digits (decimal n) ≡ true = digits_decimal own n big in
     let some : 0 < length (decimal n) = decimal_nonempty n big in
-    expression-number (decimal n) n (pieces-plain (decimal n) some (digits_pass (λ b. not (is_sign b)) (λ c d. grind (arith, nat_tests)) (decimal n) digits)) (no_name (decimal n) some digits) (number_of-decimal n h)
+    expression-number (decimal n) n (pieces-plain (decimal n) some (decimal_unsigned n big)) (no_name (decimal n) some digits) (number_of-decimal n h)
 
 -- 0 fits each width
 pub zero_fits : (width : ℕ) → IsTrue (fits_width width 0)
 zero_fits zero = refl
 zero_fits (suc zero) = refl
 zero_fits (suc (suc width)) = refl
+
+-- a word that writes this number
+pub record Writes (text : List ℕ) (n : ℕ) : Type 0 where
+  pub is_word : IsWord text
+  pub number : number_of text ≡ Some n
+  pub value : expression text ≡ Some (constant n)
+
+-- in decimal
+pub decimal_writes : (n : ℕ) → n < 2 ^ 32 → Writes (decimal n) n
+decimal_writes n lt =
+    let big : n < 2 ^ 64 = omega arith in
+    record {
+      is_word = record { some = decimal_some n big; bytes = decimal_word n big; one_line = decimal_no_line_feed n big };
+      number = number_of-decimal n lt;
+      value = expression-decimal n lt;
+    }
+
+-- with a minus in front
+minus_writes : (k n : ℕ) → k ≤ 2 ^ 31 → negated k ≡ n → Writes (45 ∷ decimal k) n
+minus_writes k n le is =
+    let big : k < 2 ^ 64 = omega arith in
+    let number : number_of (45 ∷ decimal k) ≡ Some n = number_of-negative k le ∙ ap (λ x. Some x) is in
+    record {
+      is_word = record { some = omega arith; bytes = decimal_word k big; one_line = decimal_no_line_feed k big };
+      number = number;
+      value = expression-number (45 ∷ decimal k) n (pieces-signed 45 (decimal k) refl (decimal_some k big) (decimal_unsigned k big)) refl number;
+    }
+
+signed_by : (n : ℕ) (small : Bool) → nat_lt n (2 ^ 31) ≡ small → n < 2 ^ 32 → Writes (signed_decimal (sel small (pos n) (negsuc (2 ^ 32 - suc n)))) n
+signed_by n true is lt = decimal_writes n lt
+signed_by n false is lt =
+    let high : 2 ^ 31 ≤ n = grind (arith, nat_tests) in
+    let le : suc (2 ^ 32 - suc n) ≤ 2 ^ 31 = omega arith in
+    let rest : 2 ^ 32 - suc (2 ^ 32 - suc n) ≡ n = omega arith in
+    minus_writes (suc (2 ^ 32 - suc n)) n le (ap (λ k. k % 2 ^ 32) rest ∙ mod-eq_of_lt lt)
+
+-- as the number that its bits are with a sign
+pub signed_writes : (n : ℕ) → n < 2 ^ 32 → Writes (signed_decimal (cast_signed w32 n)) n
+signed_writes n lt = signed_by n (nat_lt n (2 ^ 31)) refl lt

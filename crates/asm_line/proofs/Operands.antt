@@ -8,7 +8,7 @@ use Rattle.std.proofs.lemmas.Bool.Decides.{nat_tests}
 use Rattle.std.proofs.Math.Seq.{take-add}
 use Rattle.std.proofs.lemmas.List.{append-nil, drop-drop, take-append-drop}
 use Rattle.asm_line.specs.Operand.{expression, expression_in, is_name, is_sign, number_of, pieces, total}
-use Rattle.asm_line.specs.Row.{constant}
+use Rattle.asm_line.specs.Row.{address, constant}
 use Rattle.asm_line.specs.Read.{checked, with_ok}
 use Rattle.asm_line.specs.Text.{onto, starts_with}
 use Rattle.asm_line.specs.Words.{meaning_of, suits, words_table}
@@ -113,12 +113,22 @@ pieces-plain [] some h = absurd (omega arith)
 pieces-plain (b ∷ more) some h =
     ap (λ t. pieces (b ∷ t)) (sym (append-nil more)) ∙ plain_run b more [] h refl ∙ ap (λ ps. (b ∷ more) ∷ ps) pieces-nil
 
+-- and so is one sign in front of such a text
+pub pieces-signed : (sign : ℕ) (text : List ℕ) → IsTrue (is_sign sign) → 0 < length text → IsTrue (list_all (λ b. not (is_sign b)) text) → pieces (sign ∷ text) ≡ (sign ∷ text) ∷ []
+pieces-signed sign text s some h = sign_before sign text s ∙ ap (onto sign) (pieces-plain text some h)
+
 -- and a number is an expression
 pub expression-number : (word : List ℕ) (n : ℕ) → pieces word ≡ word ∷ [] → is_name word ≡ false → number_of word ≡ Some n → expression word ≡ Some (constant n)
 expression-number word n one name number =
     ap expression_in one
     ∙ ap (λ k. if k then option_map (λ n. record { name = Some word; add = n }) (total 0 []) else option_map constant (option_and_then (λ n. total n []) (number_of word))) name
     ∙ ap (λ o. option_map constant (option_and_then (λ n. total n []) o)) number
+
+-- a name is an expression
+pub expression-name : (name : List ℕ) → pieces name ≡ name ∷ [] → is_name name ≡ true → expression name ≡ Some (address name)
+expression-name name one is =
+    ap expression_in one
+    ∙ ap (λ k. if k then option_map (λ n. record { name = Some name; add = n }) (total 0 []) else option_map constant (option_and_then (λ n. total n []) (number_of name))) is
 
 -- what a word of the table means carries what it has to
 found_suits : (ws : List (List ℕ × Meaning)) (word : List ℕ) → list_all (λ w. suits w.1) ws ≡ true → IfSome (option_map (λ w. w.1) (find (λ w. bytes_eq word w.0) ws)) (λ m. IsTrue (suits m))

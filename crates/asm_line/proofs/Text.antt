@@ -6,7 +6,7 @@ use Rattle.std.proofs.lemmas.Bool.Decides.{nat_tests}
 use Rattle.std.proofs.lemmas.List.{drop_more, take-append-drop, take_all}
 use Rattle.asm_line.specs.Text.{onto, lines_of, is_blank, is_word_byte, starts_with, before, words_of}
 
-both_true : (a b : Bool) → (a && b) ≡ true → (a ≡ true) × (b ≡ true)
+pub both_true : (a b : Bool) → (a && b) ≡ true → (a ≡ true) × (b ≡ true)
 both_true true b h = (refl, h)
 both_true false b h = (h, cc)
 
@@ -14,7 +14,7 @@ not_true : (a : Bool) → not a ≡ true → a ≡ false
 not_true true h = sym h
 not_true false h = refl
 
-both : (a b : Bool) → a ≡ true → b ≡ true → (a && b) ≡ true
+pub both : (a b : Bool) → a ≡ true → b ≡ true → (a && b) ≡ true
 both a b h k = ap (λ x. x && b) h ∙ k
 
 -- lines

@@ -1,5 +1,5 @@
 -- How a text is cut into lines, and a line into words.
-use Rattle.std.specs.Prelude.{ℕ, Bool, false, ◌||◌, not, ◌==◌, List, [], ◌∷◌, if◌then◌else◌}
+use Rattle.std.specs.Prelude.{ℕ, Bool, false, ◌||◌, not, ◌==◌, List, [], ◌∷◌, ◌++◌, flat_map, if◌then◌else◌}
 
 -- a byte goes onto the first of these
 abbrev pub onto : ℕ → List (List ℕ) → List (List ℕ)
@@ -10,6 +10,10 @@ onto b (t ∷ ts) = (b ∷ t) ∷ ts
 unfoldable pub lines_of : List ℕ → List (List ℕ)
 lines_of [] = [] ∷ []
 lines_of (b ∷ bs) = if b == 10 then [] ∷ lines_of bs else onto b (lines_of bs)
+
+-- lines with their line feeds
+abbrev pub text_of : List (List ℕ) → List ℕ
+text_of lines = flat_map (λ line. line ++ 10 ∷ []) lines
 
 -- a space, a tab or a carriage return
 abbrev pub is_blank : ℕ → Bool

@@ -3,3 +3,7 @@ pub mod Settling
 pub mod Counts
 pub mod Limits
 pub mod Gathering
+pub mod Joined
+pub mod Rows
+pub mod Comes
+pub mod Found
