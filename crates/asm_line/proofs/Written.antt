@@ -196,7 +196,7 @@ none-made = text-made [] [] tt
 pub line-made : (line : List ℕ) (row : Row) → Reads line row → MadeOf (line ++ 10 ∷ []) (row ∷ [])
 line-made line row h = record { lines = line ∷ []; text_is = sym (append-nil (line ++ 10 ∷ [])); read = (h, tt) }
 
-all_read-append : (lines more : List (List ℕ)) (rows rest : List Row) → AllRead lines rows → AllRead more rest → AllRead (lines ++ more) (rows ++ rest)
+pub all_read-append : (lines more : List (List ℕ)) (rows rest : List Row) → AllRead lines rows → AllRead more rest → AllRead (lines ++ more) (rows ++ rest)
 all_read-append [] more [] rest h k = k
 all_read-append [] more (row ∷ rows) rest h k = absurd h
 all_read-append (line ∷ lines) more [] rest h k = absurd h
@@ -209,7 +209,7 @@ append-made a b xs ys first second = record {
   read = all_read-append first.lines second.lines xs ys first.read second.read;
 }
 
-all_read-map : {X : Type 0} (line : X → List ℕ) (row : X → Row) (test : X → Bool) → ((x : X) → test x ≡ true → Reads (line x) (row x)) → (xs : List X) → list_all test xs ≡ true → AllRead (map line xs) (map row xs)
+pub all_read-map : {X : Type 0} (line : X → List ℕ) (row : X → Row) (test : X → Bool) → ((x : X) → test x ≡ true → Reads (line x) (row x)) → (xs : List X) → list_all test xs ≡ true → AllRead (map line xs) (map row xs)
 all_read-map line row test read [] h = tt
 all_read-map line row test read (x ∷ xs) h =
     let k = both_true (test x) (list_all test xs) h in

@@ -1,5 +1,5 @@
 -- What lines come to that stand behind others.
-use Rattle.std.proofs.Common.{◌≡◌, ℕ, ◌+◌, ◌^◌, ◌<◌, ◌≤◌, Bool, true, false, List, [], ◌∷◌, ◌++◌, append-nil, length, Ok, refl, sym, ap, subst, ◌∙◌, arith, add-zero, length-append}
+use Rattle.std.proofs.Common.{◌≡◌, ℕ, ◌+◌, ◌^◌, ◌<◌, ◌≤◌, Bool, true, false, List, [], ◌∷◌, ◌++◌, append-nil, length, Ok, refl, sym, ap, subst, ◌∙◌, arith, add-zero, zero-add, length-append}
 use Rattle.std.specs.Prelude.{Option, Some, None, flat_map, map, nat_lt, option_map, replicate, if◌then◌else◌}
 use Rattle.std.specs.Option.{option_or}
 use Rattle.std.proofs.lemmas.Bool.Decides.{nat_tests}
@@ -13,14 +13,16 @@ use Rattle.asm_line.specs.declared.line.AsmSegment.TheVariants.{Code, Data, Lit,
 use Rattle.asm_link.specs.Definitions.{state_after}
 use Rattle.asm_link.specs.Faults.{code_too_large, kind_at, of_line, redefined_by}
 use Rattle.asm_link.specs.Image.{bss_length, bytes_at, bytes_in, code_at, image_of, padded, word}
-use Rattle.asm_link.specs.Link.{block_size, end_fault, end_kind, fault_in, first_fault, linked_lines, unless_fault}
+use Rattle.asm_link.specs.Link.{block_size, end_fault, end_kind, fault_in, first_fault, linked, linked_lines, unless_fault}
 use Rattle.asm_link.specs.Source.{SourceLine, FileEnd}
 use Rattle.asm_link.specs.State.{Before, file_end, next_last, next_waits, row_addition, row_code, start, step, step_row}
-use Rattle.asm_link.specs.Visits.{Visit, visits_from}
+use Rattle.asm_link.specs.Visits.{Visit, visits, visits_from}
 use Rattle.asm_link.specs.declared.fault.AsmFault.{AsmFault}
 use Rattle.asm_link.specs.declared.fault.AsmKind.TheVariants.{CodeTooLarge}
+use Rattle.asm_line.proofs.Written.{MadeOf}
+use Rattle.asm_link.proofs.Counts.{count-code}
 use Rattle.asm_link.proofs.Joined.{first_fault-append, flat_map-visits, state_after-append, visits_from-append}
-use Rattle.asm_link.proofs.Rows.{length-row_lines, line_behind, row_line, row_lines, row_lines-append, row_source}
+use Rattle.asm_link.proofs.Rows.{length-row_lines, line_behind, row_line, row_lines, row_lines-append, row_source, rows_from, texts_linked}
 
 -- what these lines come to, the first of which has the number `at` and stands behind lines that come to s: instructions,
 -- bytes of the data and of the literals, and what they come to together. No line has a fault where all lines have so many
@@ -165,14 +167,27 @@ no_end last some le = grind (arith, nat_tests)
 abbrev pub image_with : List Instr → List ℕ → List ℕ → Before → Qvm
 image_with code data_bytes lit_bytes last = record { code = code; data_part = padded (replicate 4 0 ++ data_bytes); lit = padded lit_bytes; bss = bss_length last }
 
--- files whose lines come to some instructions and few bytes are linked to their image
-pub comes-linked : {all : List SourceLine} {count : ℕ} {code : List Instr} {data_bytes lit_bytes : List ℕ} {last : Before} (files : ℕ)
-    → Comes all count 0 start all code data_bytes lit_bytes last → last.count ≡ count → 0 < count → block_size last ≤ 2 ^ 26 → linked_lines files all ≡ Ok (image_with code data_bytes lit_bytes last)
-comes-linked {all} {count} {code} {data_bytes} {lit_bytes} {last} files come counted some fits =
+-- files whose lines come to some instructions and to bytes within the limit are linked to their image
+pub comes-linked : {all : List SourceLine} {code : List Instr} {data_bytes lit_bytes : List ℕ} {last : Before} (files : ℕ)
+    → Comes all (length code) 0 start all code data_bytes lit_bytes last → 0 < length code → block_size last ≤ 2 ^ 26 → linked_lines files all ≡ Ok (image_with code data_bytes lit_bytes last)
+comes-linked {all} {code} {data_bytes} {lit_bytes} {last} files come some fits =
+    let count : (state_after start all).count ≡ length code = count-code all 0 all start ∙ zero-add (length (flat_map (code_at all) (visits all))) ∙ ap length come.code_is in
+    let last_count : last.count ≡ length code = sym (ap (λ (s : Before). s.count) come.last_is) ∙ count in
     let no_fault : fault_in files all ≡ None =
-    ap (λ f. option_or f (end_fault files (state_after start all))) (come.no_fault (ap (λ (s : Before). s.count) come.last_is ∙ counted))
+    ap (λ f. option_or f (end_fault files (state_after start all))) (come.no_fault count)
     ∙ ap (λ s. end_fault files s) come.last_is
-    ∙ ap (λ k. option_map (λ kind. record { file = files; line = 0; kind = kind }) k) (no_end last (omega (arith, counted, some)) fits) in
+    ∙ ap (λ k. option_map (λ kind. record { file = files; line = 0; kind = kind }) k) (no_end last (omega (arith, last_count, some)) fits) in
     let image_is : image_of all ≡ image_with code data_bytes lit_bytes last =
     λ i. image_with (come.code_is i) (come.data_is i) (come.lit_is i) (come.last_is i) in
     ap (λ f. unless_fault f (image_of all)) no_fault ∙ ap (λ (z : Qvm). Ok z) image_is
+
+-- a text that is made of such rows is linked, alone, to their image
+pub made-linked : {text : List ℕ} {rows : List Row} {code : List Instr} {data_bytes lit_bytes : List ℕ} {last : Before}
+    → MadeOf text rows → RowsCome (rows_from 0 (rows ∷ [])) (length code) 0 0 start rows code data_bytes lit_bytes last → 0 < length code → last.code_bytes ≤ 2 ^ 27 → block_size last ≤ 2 ^ 26
+    → linked (text ∷ []) ≡ Ok (image_with code data_bytes lit_bytes last)
+made-linked {text} {rows} {code} {data_bytes} {lit_bytes} {last} made come some small fits =
+    let all : List SourceLine = rows_from 0 (rows ∷ []) in
+    let file = file-comes come small (none-come all (length code) (0 + length rows + 2) (file_end last)) in
+    let whole : Comes all (length code) 0 start all code data_bytes lit_bytes (file_end last) =
+    record { code_is = file.code_is ∙ append-nil code; data_is = file.data_is ∙ append-nil data_bytes; lit_is = file.lit_is ∙ append-nil lit_bytes; last_is = file.last_is; no_fault = file.no_fault } in
+    texts_linked (text ∷ []) (rows ∷ []) (made, tt) ∙ comes-linked 1 whole some fits

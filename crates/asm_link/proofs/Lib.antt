@@ -7,3 +7,4 @@ pub mod Joined
 pub mod Rows
 pub mod Comes
 pub mod Found
+pub mod Instrs

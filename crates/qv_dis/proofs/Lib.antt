@@ -1,9 +1,6 @@
 mod Written
-mod Rows
-mod Sections
 mod Sizes
-mod Linked
-mod Kept
-mod Numerals
+mod Rows
 mod Reading
+mod Kept
 mod Back

@@ -1,140 +1,118 @@
--- Rows of instructions, words and bytes, and what a linker makes of them.
-use Rattle.std.proofs.Common.{◌≡◌, ℕ, zero, suc, ◌+◌, ◌^◌, ◌<◌, ◌≤◌, Bool, true, false, ◌&&◌, ◌||◌, List, [], ◌∷◌, ◌++◌, Some, None, refl, ap, ◌∙◌, arith}
-use Rattle.std.specs.Prelude.{nat_lt, nat_le, not, if◌then◌else◌, flat_map}
-use Rattle.std.specs.Option.{option_or, option_map}
-use Rattle.std.proofs.Math.Nat.{mod-eq_of_lt}
+-- The rows of an image, and what they come to.
+use Rattle.std.proofs.Common.{◌≡◌, ℕ, ◌+◌, ◌-◌, ◌*◌, ◌^◌, ◌≤◌, Bool, true, false, nat_lt, List, [], ◌∷◌, ◌++◌, length, drop, append-nil, None, refl, sym, ap, ◌∙◌, arith, add-zero, zero-add, length-append}
+use Rattle.std.specs.Prelude.{flat_map, map, if◌then◌else◌}
 use Rattle.std.proofs.lemmas.Bool.Decides.{nat_tests}
-use Rattle.qv_base.specs.Place.{capped}
-use Rattle.qv_ops.specs.declared.instr.Instr.{Instr}
-use Rattle.qv_ops.specs.Table.{width_of_op, is_branch}
-use Rattle.qv_ops.specs.Code.{word_bytes, fits_width, is_encodable, stays_within}
-use Rattle.asm_line.specs.Row.{Row, constant, Nothing, One, Into, Word, LitByte, Skip}
+use Rattle.qv_base.specs.declared.limits.TheConstants.{STACK_BYTES}
+use Rattle.qv_ops.specs.Code.{code_bytes, word_bytes}
+use Rattle.qv_image.specs.Image.{IsImage, Qvm, padding}
+use Rattle.asm_line.specs.Row.{Row, constant, Into, LitByte, Skip, Word}
 use Rattle.asm_line.specs.declared.line.AsmSegment.{AsmSegment}
 use Rattle.asm_line.specs.declared.line.AsmSegment.TheVariants.{Code, Data, Lit, Bss}
-use Rattle.asm_link.specs.declared.fault.AsmKind.TheVariants.{BranchFar, CodeTooLarge}
-use Rattle.asm_link.specs.Spot.{Spot, Read, FileEnd}
-use Rattle.asm_link.specs.State.{Before, start, step}
-use Rattle.asm_link.specs.Names.{Seen, seen_from, state_after}
-use Rattle.asm_link.specs.Faults.{kind_at}
-use Rattle.asm_link.specs.Image.{instrs_at, bytes_at}
-use Rattle.asm_link.specs.Link.{first_fault}
-
--- one file of these rows from this line on, and its end
-abbrev pub row_spots : ℕ → List Row → List Spot
-row_spots n [] = record { file = 0; line = n; entry = FileEnd } ∷ []
-row_spots n (row ∷ rows) = record { file = 0; line = n; entry = Read row } ∷ row_spots (capped (n + 1)) rows
-
-abbrev pub instr_row : Instr → Row
-instr_row i = One i.op (constant i.operand)
+use Rattle.asm_link.specs.Source.{SourceLine}
+use Rattle.asm_link.specs.State.{Before, start}
+use Rattle.asm_link.proofs.Comes.{RowsCome, append_rows-come, none_rows-come, row-comes, row-well, rows-come_as}
+use Rattle.asm_link.proofs.Instrs.{instr_row, instrs-come}
+use Rattle.qv_dis.specs.Text.{whole_words}
 
 abbrev pub word_row : ℕ → Row
 word_row v = Word (constant v)
 
+abbrev pub words_of_data : Qvm → List ℕ
+words_of_data z = whole_words (drop 4 z.data_part)
+
+-- the rows of each segment
+abbrev pub code_rows : Qvm → List Row
+code_rows z = Into Code ∷ map instr_row z.code
+
+abbrev pub data_rows : Qvm → List Row
+data_rows z = Into Data ∷ map word_row (words_of_data z)
+
+abbrev pub lit_rows : Qvm → List Row
+lit_rows z = Into Lit ∷ map LitByte z.lit
+
+-- a row of zeros, or none
+abbrev pub zero_rows : Bool → ℕ → List Row
+zero_rows none n = if none then [] else Skip n ∷ []
+
+abbrev pub bss_rows : ℕ → List Row
+bss_rows bss = Into Bss ∷ zero_rows (nat_lt bss STACK_BYTES) (bss - STACK_BYTES)
+
+-- the rows of an image's text
+abbrev pub image_rows : Qvm → List Row
+image_rows z = code_rows z ++ (data_rows z ++ (lit_rows z ++ bss_rows z.bss))
+
 -- in a segment behind so many instructions, bytes of code, of data, of literals and of zeros, with no name and no open procedure
 abbrev pub before : AsmSegment → ℕ → ℕ → ℕ → ℕ → ℕ → Before
-before segment c b d l z = record { segment = segment; frame = None; arg_words = 0; last = None; waits = false; count = c; code_bytes = b; data_size = d; lit_size = l; bss_size = z }
+before segment c b d l z = record { segment = segment; procedure = None; arg_words = 0; last = None; waits = false; count = c; code_bytes = b; data_size = d; lit_size = l; bss_size = z }
 
-abbrev pub seen_at : ℕ → Before → Spot → List Spot → Seen
-seen_at at s x behind = record { at = at; state = s; spot = x; behind = behind }
+-- behind all of them
+abbrev pub behind : Qvm → Before
+behind z = before Bss (length z.code) (length (code_bytes z.code)) (4 + 4 * length (words_of_data z)) (length z.lit) (z.bss - STACK_BYTES)
 
--- what lines come to that stand behind others, where all lines have count instructions
-pub record Comes (all : List Spot) (count at : ℕ) (s : Before) (xs : List Spot) (code : List Instr) (data_bytes lit_bytes : List ℕ) (last : Before) : Type 0 where
-  pub code_is : flat_map (instrs_at all) (seen_from at s xs) ≡ code
-  pub data_is : flat_map (bytes_at all Data) (seen_from at s xs) ≡ data_bytes
-  pub lit_is : flat_map (bytes_at all Lit) (seen_from at s xs) ≡ lit_bytes
-  pub last_is : state_after s xs ≡ last
-  pub no_fault : (state_after start all).count ≡ count → first_fault all (seen_from at s xs) ≡ None
+module _ (all : List SourceLine) (count at c b : ℕ) (le : b ≤ 2 ^ 27) where
+  into_comes : (d l z : ℕ) (from to : AsmSegment) → RowsCome all count 0 at (before from c b d l z) (Into to ∷ []) [] [] [] (before to c b d l z)
+  into_comes d l z from to =
+      rows-come_as (row-comes all count 0 at (before from c b d l z) (Into to) (λ h. row-well all 0 at (before from c b d l z) (Into to) refl refl (omega arith))) refl refl refl
+      (λ i. before to (add-zero c i) (add-zero b i) (add-zero d i) (add-zero l i) (add-zero z i))
 
--- what one line comes to, and the state behind it
-pub record ComesOne (all : List Spot) (count at : ℕ) (s : Before) (x : Spot) (xs : List Spot) (code : List Instr) (data_bytes lit_bytes : List ℕ) (later : Before) : Type 0 where
-  pub code_is : instrs_at all (seen_at at s x xs) ≡ code
-  pub data_is : bytes_at all Data (seen_at at s x xs) ≡ data_bytes
-  pub lit_is : bytes_at all Lit (seen_at at s x xs) ≡ lit_bytes
-  pub later_is : step s x ≡ later
-  pub no_fault : (state_after start all).count ≡ count → kind_at all (seen_at at s x xs) ≡ None
+  word_comes : (d l z v : ℕ) → RowsCome all count 0 at (before Data c b d l z) (word_row v ∷ []) [] (word_bytes v) [] (before Data c b (d + 4) l z)
+  word_comes d l z v =
+      rows-come_as (row-comes all count 0 at (before Data c b d l z) (word_row v) (λ h. row-well all 0 at (before Data c b d l z) (word_row v) refl refl (omega arith))) refl refl refl
+      (λ i. before Data (add-zero c i) (add-zero b i) (d + 4) (add-zero l i) (add-zero z i))
 
-module _ (all : List Spot) (count : ℕ) where
-  -- a line without a fault passes to those behind it
-  passes : (v : Seen) (vs : List Seen) → kind_at all v ≡ None → first_fault all (v ∷ vs) ≡ first_fault all vs
-  passes v vs e = ap (λ k. option_or (option_map (λ kind. record { file = v.spot.file; line = v.spot.line; kind = kind }) k) (first_fault all vs)) e
+  byte_comes : (d l z v : ℕ) → RowsCome all count 0 at (before Lit c b d l z) (LitByte v ∷ []) [] [] (v ∷ []) (before Lit c b d (l + 1) z)
+  byte_comes d l z v =
+      rows-come_as (row-comes all count 0 at (before Lit c b d l z) (LitByte v) (λ h. row-well all 0 at (before Lit c b d l z) (LitByte v) refl refl (omega arith))) refl refl refl
+      (λ i. before Lit (add-zero c i) (add-zero b i) (add-zero d i) (l + 1) (add-zero z i))
 
-  pub in_front : (at : ℕ) (s : Before) (x : Spot) (xs : List Spot) (c code : List Instr) (d data_bytes l lit_bytes : List ℕ) (later last : Before)
-      → ComesOne all count at s x xs c d l later → Comes all count (at + 1) later xs code data_bytes lit_bytes last → Comes all count at s (x ∷ xs) (c ++ code) (d ++ data_bytes) (l ++ lit_bytes) last
-  in_front at s x xs c code d data_bytes l lit_bytes later last one rest = record {
-    code_is =
-        ap (λ i. i ++ flat_map (instrs_at all) (seen_from (at + 1) (step s x) xs)) one.code_is
-        ∙ ap (λ t. c ++ flat_map (instrs_at all) (seen_from (at + 1) t xs)) one.later_is
-        ∙ ap (λ i. c ++ i) rest.code_is;
-    data_is =
-        ap (λ i. i ++ flat_map (bytes_at all Data) (seen_from (at + 1) (step s x) xs)) one.data_is
-        ∙ ap (λ t. d ++ flat_map (bytes_at all Data) (seen_from (at + 1) t xs)) one.later_is
-        ∙ ap (λ i. d ++ i) rest.data_is;
-    lit_is =
-        ap (λ i. i ++ flat_map (bytes_at all Lit) (seen_from (at + 1) (step s x) xs)) one.lit_is
-        ∙ ap (λ t. l ++ flat_map (bytes_at all Lit) (seen_from (at + 1) t xs)) one.later_is
-        ∙ ap (λ i. l ++ i) rest.lit_is;
-    last_is = ap (λ t. state_after t xs) one.later_is ∙ rest.last_is;
-    no_fault = λ h.
-        passes (seen_at at s x xs) (seen_from (at + 1) (step s x) xs) (one.no_fault h)
-        ∙ ap (λ t. first_fault all (seen_from (at + 1) t xs)) one.later_is
-        ∙ rest.no_fault h;
-  }
+  skip_comes : (d l z n : ℕ) → RowsCome all count 0 at (before Bss c b d l z) (Skip n ∷ []) [] [] [] (before Bss c b d l (z + n))
+  skip_comes d l z n =
+      rows-come_as (row-comes all count 0 at (before Bss c b d l z) (Skip n) (λ h. row-well all 0 at (before Bss c b d l z) (Skip n) refl refl (omega arith))) refl refl refl
+      (λ i. before Bss (add-zero c i) (add-zero b i) (add-zero d i) (add-zero l i) (z + n))
 
-not_large : (bytes : ℕ) → bytes ≤ 2 ^ 27 → (if nat_lt (2 ^ 27) bytes then Some CodeTooLarge else None) ≡ None
-not_large bytes le = grind (arith, nat_tests)
+module _ (all : List SourceLine) (count c b : ℕ) (le : b ≤ 2 ^ 27) where
+  words_come : (ws : List ℕ) (at d l z : ℕ) → RowsCome all count 0 at (before Data c b d l z) (map word_row ws) [] (flat_map word_bytes ws) [] (before Data c b (d + 4 * length ws) l z)
+  words_come [] at d l z = rows-come_as (none_rows-come all count 0 at (before Data c b d l z)) refl refl refl (sym (ap (λ n. before Data c b n l z) (add-zero d)))
+  words_come (w ∷ ws) at d l z =
+      let size : d + 4 + 4 * length ws ≡ d + 4 * length (w ∷ ws) = omega arith in
+      rows-come_as (append_rows-come (word_comes all count at c b le d l z w) (words_come ws (at + 1) (d + 4) l z)) refl refl refl (ap (λ n. before Data c b n l z) size)
 
-none_of : (far : Bool) (bytes : ℕ) → far ≡ false → bytes ≤ 2 ^ 27 → option_or (if far then Some BranchFar else None) (if nat_lt (2 ^ 27) bytes then Some CodeTooLarge else None) ≡ None
-none_of far bytes e le = ap (λ f. option_or (if f then Some BranchFar else None) (if nat_lt (2 ^ 27) bytes then Some CodeTooLarge else None)) e ∙ not_large bytes le
+  bytes_come : (bs : List ℕ) (at d l z : ℕ) → RowsCome all count 0 at (before Lit c b d l z) (map LitByte bs) [] [] bs (before Lit c b d (l + length bs) z)
+  bytes_come [] at d l z = rows-come_as (none_rows-come all count 0 at (before Lit c b d l z)) refl refl refl (sym (ap (λ n. before Lit c b d n z) (add-zero l)))
+  bytes_come (v ∷ bs) at d l z =
+      let size : l + 1 + length bs ≡ l + length (v ∷ bs) = omega arith in
+      rows-come_as (append_rows-come (byte_comes all count at c b le d l z v) (bytes_come bs (at + 1) d (l + 1) z)) refl refl refl (ap (λ n. before Lit c b d n z) size)
 
-not_far : (b : Bool) (count v : ℕ) → (not b || nat_lt v count) ≡ true → (b && nat_le count v) ≡ false
-not_far true count v h = grind (arith, nat_tests)
-not_far false count v h = refl
+  zeros_come : (none : Bool) (at d l n : ℕ) → RowsCome all count 0 at (before Bss c b d l 0) (zero_rows none n) [] [] [] (before Bss c b d l (if none then 0 else n))
+  zeros_come true at d l n = none_rows-come all count 0 at (before Bss c b d l 0)
+  zeros_come false at d l n = rows-come_as (skip_comes all count at c b le d l 0 n) refl refl refl (ap (before Bss c b d l) (zero-add n))
 
--- an operand that fits its width is a word
-word_fits : (width v : ℕ) → fits_width width v ≡ true → v < 2 ^ 32
-word_fits zero v h = grind (arith, nat_tests)
-word_fits (suc zero) v h = grind (arith, nat_tests)
-word_fits (suc (suc width)) v h = grind (arith, nat_tests)
+  data_come : (z : Qvm) (at : ℕ) → RowsCome all count 0 at (before Code c b 4 0 0) (data_rows z) [] (flat_map word_bytes (words_of_data z)) [] (before Data c b (4 + 4 * length (words_of_data z)) 0 0)
+  data_come z at = append_rows-come (into_comes all count at c b le 4 0 0 Code Data) (words_come (words_of_data z) (at + 1) 4 0 0)
 
-module _ (all : List Spot) (count : ℕ) where
-  pub instr_one : (at n c b d l z : ℕ) (i : Instr) (xs : List Spot) → is_encodable i ≡ true → stays_within count i ≡ true → b + (1 + width_of_op i.op) ≤ 2 ^ 27
-      → ComesOne all count at (before Code c b d l z) (record { file = 0; line = n; entry = Read (instr_row i) }) xs (i ∷ []) [] [] (before Code (c + 1) (b + (1 + width_of_op i.op)) d l z)
-  instr_one at n c b d l z i xs fits stays le = record {
-    code_is = ap (λ v. record { op = i.op; operand = v } ∷ []) (mod-eq_of_lt (word_fits (width_of_op i.op) i.operand fits));
-    data_is = refl;
-    lit_is = refl;
-    later_is = refl;
-    no_fault = λ h.
-        none_of (is_branch i.op && nat_le (state_after start all).count i.operand) (b + (1 + width_of_op i.op))
-        (ap (λ k. is_branch i.op && nat_le k i.operand) h ∙ not_far (is_branch i.op) count i.operand stays) le;
-  }
+  lit_come : (z : Qvm) (at d : ℕ) → RowsCome all count 0 at (before Data c b d 0 0) (lit_rows z) [] [] z.lit (before Lit c b d (length z.lit) 0)
+  lit_come z at d =
+      rows-come_as (append_rows-come (into_comes all count at c b le d 0 0 Data Lit) (bytes_come z.lit (at + 1) d 0 0)) refl refl refl (ap (λ n. before Lit c b d n 0) (zero-add (length z.lit)))
 
-  pub word_one : (at n c b d l z v : ℕ) (xs : List Spot) → b ≤ 2 ^ 27
-      → ComesOne all count at (before Data c b d l z) (record { file = 0; line = n; entry = Read (word_row v) }) xs [] (word_bytes v) [] (before Data c b (d + 4) l z)
-  word_one at n c b d l z v xs le = record { code_is = refl; data_is = refl; lit_is = refl; later_is = refl; no_fault = λ h. not_large b le }
+  bss_come : (at d l bss : ℕ) → RowsCome all count 0 at (before Lit c b d l 0) (bss_rows bss) [] [] [] (before Bss c b d l (bss - STACK_BYTES))
+  bss_come at d l bss =
+      let zeros : (if nat_lt bss STACK_BYTES then 0 else bss - STACK_BYTES) ≡ bss - STACK_BYTES = grind (arith, nat_tests) in
+      rows-come_as (append_rows-come (into_comes all count at c b le d l 0 Lit Bss) (zeros_come (nat_lt bss STACK_BYTES) (at + 1) d l (bss - STACK_BYTES))) refl refl refl (ap (before Bss c b d l) zeros)
 
-  pub byte_one : (at n c b d l z v : ℕ) (xs : List Spot) → b ≤ 2 ^ 27
-      → ComesOne all count at (before Lit c b d l z) (record { file = 0; line = n; entry = Read (LitByte v) }) xs [] [] (v ∷ []) (before Lit c b d (l + 1) z)
-  byte_one at n c b d l z v xs le = record { code_is = refl; data_is = refl; lit_is = refl; later_is = refl; no_fault = λ h. not_large b le }
+pub length-code : (z : Qvm) → IsImage z → length (code_bytes z.code) ≤ 2 ^ 27
+length-code z image = omega (arith, image.code_fits, length-append (code_bytes z.code) (padding (code_bytes z.code)))
 
-  pub into_one : (at n c b d l z : ℕ) (from to : AsmSegment) (xs : List Spot) → b ≤ 2 ^ 27
-      → ComesOne all count at (before from c b d l z) (record { file = 0; line = n; entry = Read (Into to) }) xs [] [] [] (before to c b d l z)
-  into_one at n c b d l z from Code xs le = record { code_is = refl; data_is = refl; lit_is = refl; later_is = refl; no_fault = λ h. not_large b le }
-  into_one at n c b d l z from Data xs le = record { code_is = refl; data_is = refl; lit_is = refl; later_is = refl; no_fault = λ h. not_large b le }
-  into_one at n c b d l z from Lit xs le = record { code_is = refl; data_is = refl; lit_is = refl; later_is = refl; no_fault = λ h. not_large b le }
-  into_one at n c b d l z from Bss xs le = record { code_is = refl; data_is = refl; lit_is = refl; later_is = refl; no_fault = λ h. not_large b le }
-
-  pub skip_one : (at n c b d l z m : ℕ) (xs : List Spot) → b ≤ 2 ^ 27
-      → ComesOne all count at (before Bss c b d l z) (record { file = 0; line = n; entry = Read (Skip m) }) xs [] [] [] (before Bss c b d l (z + m))
-  skip_one at n c b d l z m xs le = record { code_is = refl; data_is = refl; lit_is = refl; later_is = refl; no_fault = λ h. not_large b le }
-
-  pub nothing_one : (at n c b d l z : ℕ) (xs : List Spot) → b ≤ 2 ^ 27
-      → ComesOne all count at (before Bss c b d l z) (record { file = 0; line = n; entry = Read Nothing }) xs [] [] [] (before Bss c b d l z)
-  nothing_one at n c b d l z xs le = record { code_is = refl; data_is = refl; lit_is = refl; later_is = refl; no_fault = λ h. not_large b le }
-
-  pub end_one : (at n c b d l z : ℕ) → b ≤ 2 ^ 27
-      → ComesOne all count at (before Bss c b d l z) (record { file = 0; line = n; entry = FileEnd }) [] [] [] [] (before Code c b d l z)
-  end_one at n c b d l z le = record { code_is = refl; data_is = refl; lit_is = refl; later_is = refl; no_fault = λ h. not_large b le }
-
-  pub nothing_left : (at : ℕ) (s : Before) → Comes all count at s [] [] [] [] s
-  nothing_left at s = record { code_is = refl; data_is = refl; lit_is = refl; last_is = refl; no_fault = λ h. refl }
+-- an image's rows come to its instructions, the whole words of its data behind the first one, and its literals
+pub rows_come : (all : List SourceLine) (z : Qvm) → IsImage z → RowsCome all (length z.code) 0 0 start (image_rows z) z.code (flat_map word_bytes (words_of_data z)) z.lit (behind z)
+rows_come all z image =
+    let count : ℕ = length z.code in
+    let bytes : ℕ = length (code_bytes z.code) in
+    let le : bytes ≤ 2 ^ 27 = length-code z image in
+    let some : 0 ≤ 2 ^ 27 = omega arith in
+    let code_come : RowsCome all count 0 0 start (code_rows z) z.code [] [] (before Code count bytes 4 0 0) =
+    rows-come_as (append_rows-come (into_comes all count 0 0 0 some 4 0 0 Code Code) (instrs-come all count 0 (0 + 1) start z.code image.encodable image.branches_within (omega (arith, le)))) refl refl refl
+    (λ i. before Code (zero-add count i) (zero-add bytes i) 4 0 0) in
+    let size : ℕ = 4 + 4 * length (words_of_data z) in
+    rows-come_as
+    (append_rows-come code_come (append_rows-come (data_come all count count bytes le z _) (append_rows-come (lit_come all count count bytes le z _ size) (bss_come all count count bytes le _ size (length z.lit) z.bss))))
+    (append-nil z.code) (append-nil (flat_map word_bytes (words_of_data z))) (append-nil z.lit) refl

@@ -1,11 +1,13 @@
 -- The text of an image.
-use Rattle.std.specs.Prelude.{ℕ, zero, suc, ◌-◌, codes, nat_lt, List, [], ◌∷◌, ◌++◌, drop, map, flat_map, if◌then◌else◌}
+use Rattle.std.specs.Prelude.{ℕ, zero, suc, ◌-◌, codes, nat_lt, List, [], ◌∷◌, ◌++◌, drop, map, if◌then◌else◌}
 use Rattle.std.specs.Fmt.{decimal, signed_decimal}
 use Rattle.std.specs.Int.{cast_signed, w32}
 use Rattle.qv_ops.specs.Code.{word_in}
 use Rattle.qv_ops.specs.Table.{name_of_op, width_of_op}
 use Rattle.qv_ops.specs.declared.instr.Instr.{Instr}
+use Rattle.qv_base.specs.declared.limits.TheConstants.{STACK_BYTES}
 use Rattle.qv_image.specs.Image.{Qvm}
+use Rattle.asm_line.specs.Text.{text_of}
 
 -- an operand of this width behind a space: a byte unsigned, a word signed
 abbrev pub operand_text : ℕ → ℕ → List ℕ
@@ -39,16 +41,12 @@ data_lines bytes = codes "data" ∷ map word_line (whole_words (drop 4 bytes))
 abbrev pub lit_lines : List ℕ → List (List ℕ)
 lit_lines bytes = codes "lit" ∷ map byte_line bytes
 
--- linking adds the stack's 65,536 bytes by itself
+-- linking adds the stack's bytes by itself
 abbrev pub skip_lines : ℕ → List (List ℕ)
-skip_lines bss = if nat_lt bss 65536 then [] else (codes "skip " ++ decimal (bss - 65536)) ∷ []
+skip_lines bss = if nat_lt bss STACK_BYTES then [] else (codes "skip " ++ decimal (bss - STACK_BYTES)) ∷ []
 
 abbrev pub bss_lines : ℕ → List (List ℕ)
 bss_lines bss = codes "bss" ∷ skip_lines bss
-
--- lines with their line feeds
-abbrev pub text_of : List (List ℕ) → List ℕ
-text_of lines = flat_map (λ line. line ++ 10 ∷ []) lines
 
 abbrev pub lines_of_image : Qvm → List (List ℕ)
 lines_of_image z = code_lines z.code ++ (data_lines z.data_part ++ (lit_lines z.lit ++ bss_lines z.bss))

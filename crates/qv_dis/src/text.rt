@@ -1,21 +1,20 @@
 //! The text of an image.
 ghost use Rattle.std.specs.Prelude.{◌≡◌, ◌++◌, ◌<◌, All, IfOk, OnOk, [], ◌∷◌, Ok};
 ghost use Rattle.std.specs.String.{string_bytes};
+ghost use Rattle.asm_line.specs.Text.{text_of};
 ghost use Rattle.asm_link.specs.Link.{linked};
 ghost use Rattle.qv_image.specs.Image.{IsImage};
 ghost use Rattle.qv_image.specs.Shown.{qvm_of};
 ghost use Rattle.qv_dis.specs.Back.{GivesCode, IsLinked, LeavesRoom};
-ghost use Rattle.qv_dis.specs.Text.{bss_lines, byte_line, code_lines, data_lines, disassembly, instr_line, lines_of_image, lit_lines, text_of, word_line};
+ghost use Rattle.qv_dis.specs.Text.{bss_lines, byte_line, code_lines, data_lines, disassembly, instr_line, lines_of_image, lit_lines, word_line};
 
 use byteorder::{ByteOrder, LittleEndian};
 use qv_base::NoMemory;
+use qv_base::limits::STACK_BYTES;
 use qv_image::image::Image;
 use qv_ops::instr::Instr;
 use qv_ops::op::{name_of, width};
 use std::alloc::Global;
-
-// The bytes of zeros that linking adds for the stack.
-const STACK: u32 = 65_536;
 
 /// The image as assembly text, one instruction, word of the data or byte of the literals a line.
 ///
@@ -109,8 +108,8 @@ fn append_bss(text: &mut String, bss: u32) -> Result<(), NoMemory>
     ensures { OnOk result (string_bytes text.new ≡ string_bytes text.old ++ text_of (bss_lines bss)) }
 {
     text.push_str("bss\n")?;
-    if bss >= STACK {
-        let zeros = bss - STACK;
+    if bss >= STACK_BYTES {
+        let zeros = bss - STACK_BYTES;
         writeln!(text, "skip {zeros}")?;
     }
     Ok(())

@@ -1,7 +1,8 @@
 use Rattle.std.proofs.Common.{◌≡◌, ◌++◌, drop}
 use Rattle.std.specs.Prelude.{map}
 use Rattle.std.specs.String.{string_bytes}
-use Rattle.qv_dis.specs.Text.{code_lines, instr_line, text_of}
+use Rattle.asm_line.specs.Text.{text_of}
+use Rattle.qv_dis.specs.Text.{code_lines, instr_line}
 use Rattle.qv_dis.proofs.text.append_code.Given as goal
 
 abbrev pub invariant-loop-instr : goal.invariant-loop-instr

@@ -1,7 +1,8 @@
 use Rattle.std.proofs.Common.{◌*◌, ◌<◌, length, drop, length-drop, append-nil, ap, sym, ◌∙◌, arith}
 use Rattle.std.specs.Prelude.{map, ◌++◌}
 use Rattle.std.specs.String.{string_bytes}
-use Rattle.qv_dis.specs.Text.{text_of, word_line}
+use Rattle.asm_line.specs.Text.{text_of}
+use Rattle.qv_dis.specs.Text.{word_line}
 use Rattle.qv_dis.proofs.Written.{words_end}
 use Rattle.qv_dis.proofs.text.append_data.Goals as goal
 

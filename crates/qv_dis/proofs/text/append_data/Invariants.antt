@@ -1,7 +1,8 @@
 use Rattle.std.proofs.Common.{◌≡◌, ◌*◌, ◌++◌, drop}
 use Rattle.std.specs.Prelude.{map}
 use Rattle.std.specs.String.{string_bytes}
-use Rattle.qv_dis.specs.Text.{data_lines, text_of, whole_words, word_line}
+use Rattle.asm_line.specs.Text.{text_of}
+use Rattle.qv_dis.specs.Text.{data_lines, whole_words, word_line}
 use Rattle.qv_dis.proofs.text.append_data.Given as goal
 
 abbrev pub invariant-loop-i : goal.invariant-loop-i
