@@ -4,8 +4,8 @@ use Rattle.qv_outside.specs.Event.{Event, Reply}
 use Rattle.qv_outside.specs.Hosts.{Table}
 
 -- vmMain is called several times over the same static objects, in a number of turns. A turn is a call of a
--- function, a selection of a switch, a goto, or a look again of a loop at its condition; what a program does
--- between two of them ends by itself. Each end has the events made so far
+-- function, a selection of a switch, a goto, or a loop that looks again; it is no step of the machine. Each
+-- end has the events made so far
 pub data SourceEnd : Type 0 where
   -- each call has returned; the words that they returned, in order
   Done : List ℕ → List Event → SourceEnd

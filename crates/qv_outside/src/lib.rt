@@ -1,6 +1,7 @@
 // The outside: files, sinks and hosts as traits, and implementations in memory.
 #![tactic(auto)]
 
+pub mod drop_sink;
 mod entries;
 pub mod files;
 pub mod fixed_host;

@@ -112,7 +112,7 @@ fn run_over<F: Files + Drop>(
         }
     }
     Ok(Outcome {
-        code: status_code(status),
+        code: status_code(&status),
         out,
         err,
         shelf,

@@ -1,8 +1,11 @@
 pub mod Calling
 pub mod Working
+pub mod Causing
 pub mod Playing
 pub mod Linking
 pub mod Listing
 pub mod Gathering
 pub mod Damaging
 pub mod Answering
+pub mod Worked
+pub mod Quieting

@@ -23,7 +23,7 @@ use Rattle.qv_tool.specs.Answers.{Completes, Finishes, IsFollower, Refuses, Repo
 use Rattle.qv_tool.specs.Ending.{line, last_stop, stop_status, Tells}
 use Rattle.qv_tool.specs.Task.{Task, AssembleList, task_of}
 use Rattle.qv_tool.specs.Verdict.{Verdict, Unreadable, Unready, Absent, TooLong, Runs, Builds, IsEnd, IsRefusal, listed, named_in, of_source, of_task, read_for, refusal_of, verdict}
-use Rattle.qv_tool.specs.Work.{Says, SaysUnread, Stores, Works}
+use Rattle.qv_tool.specs.Work.{Delivers, Leaves, Says, SaysUnread, Stores}
 use Rattle.qv_words.specs.Words.{Command}
 
 below : (a b : ℕ) → a < b → nat_lt a b ≡ true
@@ -78,8 +78,8 @@ told_is_end end status text tells = subst IsEnd (sym tells.status_is) (stop_is_e
 
 module _ (table : Table) (c : Option Command) where
   -- a report that says what is reported
-  says_works : (old : FileMap) (new : Option FileMap) (failed : Option (List ℕ)) (status : Status) (text : List ℕ) (report : Report) → Says status text report → Reports table c old new failed text status → Works table c old new failed (Ok report)
-  says_works old new failed status text report says reports =
+  says_leaves : (old : FileMap) (new : Option FileMap) (failed : Option (List ℕ)) (status : Status) (text : List ℕ) (report : Report) → Says status text report → Reports table c old new failed text status → Leaves table c old new failed (Ok report)
+  says_leaves old new failed status text report says reports =
       let P : Status → Type 0 = λ s. Reports table c old new failed report.line.items s in
       let Q : List ℕ → Type 0 = λ t. Reports table c old new failed t status in
       subst P (sym says.status_is) (subst Q (sym says.line_is) reports)
@@ -100,20 +100,20 @@ module _ (table : Table) (c : Option Command) where
 
   -- a refusal, told with this line
   refuses_with : (old : FileMap) (new : Option FileMap) (failed : Option (List ℕ)) (v : Verdict) (status : Status) (text : List ℕ) (report : Report) → verdict old c ≡ v → refusal_of v ≡ Some (record { status = status; text = text }) → new ≡ Some old → IsRefusal status → Says status text report →
-      Works table c old new failed (Ok report)
+      Leaves table c old new failed (Ok report)
   refuses_with old new failed v status text report e refused held is says =
-      says_works old new failed status text report says (refusal_reports old new failed status text is (record { refusal_is = ap refusal_of e ∙ refused; held = held }))
+      says_leaves old new failed status text report says (refusal_reports old new failed status text is (record { refusal_is = ap refusal_of e ∙ refused; held = held }))
 
   -- a name that the command reads is absent, too long or can't be read
-  pub absent_works : (old : FileMap) (new : Option FileMap) (failed : Option (List ℕ)) (name : List ℕ) (report : Report) → verdict old c ≡ Absent name → new ≡ Some old → Says Missing (line (codes "absent: " ++ name)) report → Works table c old new failed (Ok report)
-  absent_works old new failed name report e held says = refuses_with old new failed (Absent name) Missing (line (codes "absent: " ++ name)) report e refl held tt says
+  pub absent_leaves : (old : FileMap) (new : Option FileMap) (failed : Option (List ℕ)) (name : List ℕ) (report : Report) → verdict old c ≡ Absent name → new ≡ Some old → Says Missing (line (codes "absent: " ++ name)) report → Leaves table c old new failed (Ok report)
+  absent_leaves old new failed name report e held says = refuses_with old new failed (Absent name) Missing (line (codes "absent: " ++ name)) report e refl held tt says
 
-  pub too_long_works : (old : FileMap) (new : Option FileMap) (failed : Option (List ℕ)) (name : List ℕ) (report : Report) → verdict old c ≡ TooLong name → new ≡ Some old → Says Missing (line (codes "too long: " ++ name)) report → Works table c old new failed (Ok report)
-  too_long_works old new failed name report e held says = refuses_with old new failed (TooLong name) Missing (line (codes "too long: " ++ name)) report e refl held tt says
+  pub too_long_leaves : (old : FileMap) (new : Option FileMap) (failed : Option (List ℕ)) (name : List ℕ) (report : Report) → verdict old c ≡ TooLong name → new ≡ Some old → Says Missing (line (codes "too long: " ++ name)) report → Leaves table c old new failed (Ok report)
+  too_long_leaves old new failed name report e held says = refuses_with old new failed (TooLong name) Missing (line (codes "too long: " ++ name)) report e refl held tt says
 
-  pub read_failed_works : (old : FileMap) (new : Option FileMap) (failed : Option (List ℕ)) (name : List ℕ) (report : Report) → Contains (named_in old c) name → failed ≡ Some name → new ≡ Some old → Says LineReadFault (line (codes "read fault: " ++ name)) report → Works table c old new failed (Ok report)
-  read_failed_works old new failed name report needed named held says =
-      says_works old new failed LineReadFault (line (codes "read fault: " ++ name)) report says (record { name = name; reads = needed; failed_is = named; held = held }, refl)
+  pub read_failed_leaves : (old : FileMap) (new : Option FileMap) (failed : Option (List ℕ)) (name : List ℕ) (report : Report) → Contains (named_in old c) name → failed ≡ Some name → new ≡ Some old → Says LineReadFault (line (codes "read fault: " ++ name)) report → Leaves table c old new failed (Ok report)
+  read_failed_leaves old new failed name report needed named held says =
+      says_leaves old new failed LineReadFault (line (codes "read fault: " ++ name)) report says (record { name = name; reads = needed; failed_is = named; held = held }, refl)
 
   -- the first read of a command, of this name
   module _ (name : List ℕ) (go : FileMap → List ℕ → Verdict) where
@@ -121,14 +121,14 @@ module _ (table : Table) (c : Option Command) where
     too_long_is held bytes is here long = is ∙ ap (of_source name (go held)) here ∙ ap (λ b. if b then go held bytes else TooLong name) (not_below (length bytes) (2 ^ 31) long)
 
     -- it answered a fault
-    pub unread_works : (old new : Option FileMap) (before failed : Option (List ℕ)) (fault : FileFault) (result : Result Report Wanting) → IfSome old (λ held. Contains (named_in held c) name) → IfSome old (λ held. verdict held c ≡ of_source name (go held) (content held name)) →
-        Reads old new name (Err fault) → IfSome old (λ _. failed ≡ failed_by_read before name (Err fault)) → IfOk result (λ report. SaysUnread name report fault) → IfSome old (λ held. Works table c held new failed result)
-    unread_works None new before failed fault result needed is reads named says = tt
-    unread_works (Some old) new before failed fault (Err wanting) needed is reads named says = inl reads.0
-    unread_works (Some old) new before failed IsAbsent (Ok report) needed is reads named says = absent_works old new failed name report (is ∙ ap (of_source name (go old)) reads.1) reads.0 says
-    unread_works (Some old) new before failed IsTooLong (Ok report) needed is reads named says = too_long_works old new failed name report (too_long_is old reads.1.0 is reads.1.1 reads.1.2) reads.0 says
-    unread_works (Some old) new before failed ReadFailed (Ok report) needed is reads named says = read_failed_works old new failed name report needed named reads.0 says
-    unread_works (Some old) new before failed ReadNoMemory (Ok report) needed is reads named says = absurd says
+    pub unread_leaves : (old new : Option FileMap) (before failed : Option (List ℕ)) (fault : FileFault) (result : Result Report Wanting) → IfSome old (λ held. Contains (named_in held c) name) → IfSome old (λ held. verdict held c ≡ of_source name (go held) (content held name)) →
+        Reads old new name (Err fault) → IfSome old (λ _. failed ≡ failed_by_read before name (Err fault)) → IfOk result (λ report. SaysUnread name report fault) → IfSome old (λ held. Leaves table c held new failed result)
+    unread_leaves None new before failed fault result needed is reads named says = tt
+    unread_leaves (Some old) new before failed fault (Err wanting) needed is reads named says = inl reads.0
+    unread_leaves (Some old) new before failed IsAbsent (Ok report) needed is reads named says = absent_leaves old new failed name report (is ∙ ap (of_source name (go old)) reads.1) reads.0 says
+    unread_leaves (Some old) new before failed IsTooLong (Ok report) needed is reads named says = too_long_leaves old new failed name report (too_long_is old reads.1.0 is reads.1.1 reads.1.2) reads.0 says
+    unread_leaves (Some old) new before failed ReadFailed (Ok report) needed is reads named says = read_failed_leaves old new failed name report needed named reads.0 says
+    unread_leaves (Some old) new before failed ReadNoMemory (Ok report) needed is reads named says = absurd says
 
     -- it gave the file's content, and no file has changed
     pub read_stays : (old new : Option FileMap) (source : Vec ℕ) → Reads old new name (Ok source) → new ≡ old
@@ -139,91 +139,94 @@ module _ (table : Table) (c : Option Command) where
     read_goes None new source is reads = tt
     read_goes (Some old) new source is reads = is ∙ ap (of_source name (go old)) reads.1.0 ∙ ap (λ b. if b then go old source.items else TooLong name) (below (length source.items) (2 ^ 31) reads.1.1)
 
-  -- memory is wanting before the command's file is written
-  pub wanting_works : (old mid : Option FileMap) (failed : Option (List ℕ)) (wanting : Wanting) → mid ≡ old → IfSome old (λ held. Works table c held mid failed (Err wanting))
-  wanting_works None mid failed wanting stays = tt
-  wanting_works (Some old) mid failed wanting stays = inl stays
+  -- memory is refused before the command's file is written
+  pub wanting_leaves : (old mid : Option FileMap) (failed : Option (List ℕ)) (wanting : Wanting) → mid ≡ old → IfSome old (λ held. Leaves table c held mid failed (Err wanting))
+  wanting_leaves None mid failed wanting stays = tt
+  wanting_leaves (Some old) mid failed wanting stays = inl stays
 
   -- the verdict is this one, and no file has changed so far
   module _ (v : Verdict) where
     -- it's a refusal
-    pub refused_works : (old mid : Option FileMap) (failed : Option (List ℕ)) (status : Status) (text : List ℕ) (result : Result Report Wanting) → IfSome old (λ held. verdict held c ≡ v) → mid ≡ old → IsRefusal status → refusal_of v ≡ Some (record { status = status; text = text }) →
-        IfOk result (λ report. Says status text report) → IfSome old (λ held. Works table c held mid failed result)
-    refused_works None mid failed status text result is stays refusal refused says = tt
-    refused_works (Some old) mid failed status text (Err wanting) is stays refusal refused says = inl stays
-    refused_works (Some old) mid failed status text (Ok report) is stays refusal refused says = refuses_with old mid failed v status text report is refused stays refusal says
+    pub refused_leaves : (old mid : Option FileMap) (failed : Option (List ℕ)) (status : Status) (text : List ℕ) (result : Result Report Wanting) → IfSome old (λ held. verdict held c ≡ v) → mid ≡ old → IsRefusal status → refusal_of v ≡ Some (record { status = status; text = text }) →
+        IfOk result (λ report. Says status text report) → IfSome old (λ held. Leaves table c held mid failed result)
+    refused_leaves None mid failed status text result is stays refusal refused says = tt
+    refused_leaves (Some old) mid failed status text (Err wanting) is stays refusal refused says = inl stays
+    refused_leaves (Some old) mid failed status text (Ok report) is stays refusal refused says = refuses_with old mid failed v status text report is refused stays refusal says
 
-    -- memory is wanting in the write of the command's file
-    pub unstored_works : (old mid new : Option FileMap) (failed : Option (List ℕ)) (target bytes : List ℕ) (wanting : Wanting) → mid ≡ old → IfSome mid (λ held. Stores held new failed target bytes (Err wanting)) → IfSome old (λ held. Works table c held new failed (Err wanting))
-    unstored_works None mid new failed target bytes wanting stays stores = tt
-    unstored_works (Some old) mid new failed target bytes wanting stays stores =
-        let S : Option FileMap → Type 0 = λ m. IfSome m (λ held. Stores held new failed target bytes (Err wanting)) in
-        inl (subst S stays stores)
+    -- the write of the command's file failed
+    torn : (old : FileMap) (new : Option FileMap) (failed : Option (List ℕ)) (target bytes : List ℕ) (report : Report) → verdict old c ≡ v → WritesFile v target bytes → Stores old new failed target bytes (Ok (Some report)) → Leaves table c old new failed (Ok report)
+    torn old new failed target bytes report is writes stores =
+        let W : Verdict → Type 0 = λ x. WritesFile x target bytes in
+        says_leaves old new failed LineWriteFault (line (codes "write fault: " ++ target)) report stores.4
+        (record { name = target; bytes = bytes; writes = subst W (sym is) writes; files = stores.0; held = stores.1; torn = stores.2; failed_is = stores.3 }, refl)
 
-    -- the write of it failed
-    pub torn_works : (old mid new : Option FileMap) (failed : Option (List ℕ)) (target bytes : List ℕ) (stored : Option Report) (report : Report) → stored ≡ Some report → IfSome old (λ held. verdict held c ≡ v) → mid ≡ old → WritesFile v target bytes →
-        IfSome mid (λ held. Stores held new failed target bytes (Ok stored)) → IfSome old (λ held. Works table c held new failed (Ok report))
-    torn_works None mid new failed target bytes stored report some is stays writes stores = tt
-    torn_works (Some old) mid new failed target bytes stored report some is stays writes stores =
+    pub torn_leaves : (old mid new : Option FileMap) (failed : Option (List ℕ)) (target bytes : List ℕ) (stored : Option Report) (report : Report) → stored ≡ Some report → IfSome old (λ held. verdict held c ≡ v) → mid ≡ old → WritesFile v target bytes →
+        IfSome mid (λ held. Stores held new failed target bytes (Ok stored)) → IfSome old (λ held. Leaves table c held new failed (Ok report))
+    torn_leaves None mid new failed target bytes stored report some is stays writes stores = tt
+    torn_leaves (Some old) mid new failed target bytes stored report some is stays writes stores =
         let S : Option FileMap → Type 0 = λ m. IfSome m (λ held. Stores held new failed target bytes (Ok stored)) in
         let R : Option Report → Type 0 = λ r. Stores old new failed target bytes (Ok r) in
-        let here : Stores old new failed target bytes (Ok (Some report)) = subst R some (subst S stays stores) in
-        let W : Verdict → Type 0 = λ x. WritesFile x target bytes in
-        says_works old new failed LineWriteFault (line (codes "write fault: " ++ target)) report here.4
-        (record { name = target; bytes = bytes; writes = subst W (sym is) writes; files = here.0; held = here.1; torn = here.2; failed_is = here.3 }, refl)
+        torn old new failed target bytes report is writes (subst R some (subst S stays stores))
+
+    -- memory is refused in the write of the command's file
+    pub unstored_leaves : (old mid new : Option FileMap) (failed : Option (List ℕ)) (target bytes : List ℕ) (wanting : Wanting) → mid ≡ old → IfSome mid (λ held. Stores held new failed target bytes (Err wanting)) → IfSome old (λ held. Leaves table c held new failed (Err wanting))
+    unstored_leaves None mid new failed target bytes wanting stays stores = tt
+    unstored_leaves (Some old) mid new failed target bytes wanting stays stores =
+        let S : Option FileMap → Type 0 = λ m. IfSome m (λ held. Stores held new failed target bytes (Err wanting)) in
+        inl (subst S stays stores)
 
     wrote : (old : FileMap) (new : Option FileMap) (target bytes : List ℕ) → verdict old c ≡ v → WritesFile v target bytes → new ≡ Some (with_file old target bytes) → Wrote (verdict old c) old new
     wrote old new target bytes is writes held = let W : Verdict → Type 0 = λ x. WritesFile x target bytes in record { name = target; bytes = bytes; writes = subst W (sym is) writes; held = held }
 
-    completes_works : (old : FileMap) (new : Option FileMap) (failed : Option (List ℕ)) (status : Status) (text : List ℕ) (report : Report) → verdict old c ≡ v → IsEnd status → Completes table old new text status v → Says status text report → Works table c old new failed (Ok report)
-    completes_works old new failed status text report is end completes says =
+    completes_leaves : (old : FileMap) (new : Option FileMap) (failed : Option (List ℕ)) (status : Status) (text : List ℕ) (report : Report) → verdict old c ≡ v → IsEnd status → Completes table old new text status v → Says status text report → Leaves table c old new failed (Ok report)
+    completes_leaves old new failed status text report is end completes says =
         let C : Verdict → Type 0 = λ x. Completes table old new text status x in
-        says_works old new failed status text report says (end_reports old new failed status text end (subst C (sym is) completes))
+        says_leaves old new failed status text report says (end_reports old new failed status text end (subst C (sym is) completes))
 
-    -- the command's file is written, and that is all
-    pub finished_works : (old mid new : Option FileMap) (failed : Option (List ℕ)) (target bytes : List ℕ) (stored : Option Report) (report : Report) → stored ≡ None → IfSome old (λ held. verdict held c ≡ v) → mid ≡ old → WritesFile v target bytes →
-        ((held : FileMap) → Finishes v held new Done (line (codes "done")) → Completes table held new (line (codes "done")) Done v) →
-        IfSome mid (λ held. Stores held new failed target bytes (Ok stored)) → Says Done (line (codes "done")) report → IfSome old (λ held. Works table c held new failed (Ok report))
-    finished_works None mid new failed target bytes stored report none is stays writes completes stores says = tt
-    finished_works (Some old) mid new failed target bytes stored report none is stays writes completes stores says =
-        let S : Option FileMap → Type 0 = λ m. IfSome m (λ held. Stores held new failed target bytes (Ok stored)) in
-        let R : Option Report → Type 0 = λ r. Stores old new failed target bytes (Ok r) in
-        let held : new ≡ Some (with_file old target bytes) = subst R none (subst S stays stores) in
-        completes_works old new failed Done (line (codes "done")) report is tt
-        (completes old (record { status_is = refl; line_is = refl; wrote = record { name = target; bytes = bytes; writes = writes; held = held } })) says
+    -- the command's file was to be written, and that is all
+    module _ (new : Option FileMap) (failed : Option (List ℕ)) (target bytes : List ℕ) (writes : WritesFile v target bytes) (completes : (held : FileMap) → Finishes v held new Done (line (codes "done")) → Completes table held new (line (codes "done")) Done v) where
+      delivered : (old : FileMap) (report : Report) → verdict old c ≡ v → Delivers old new failed target bytes (Ok report) → Leaves table c old new failed (Ok report)
+      delivered old report is (inl (held, says)) = completes_leaves old new failed Done (line (codes "done")) report is tt
+          (completes old (record { status_is = refl; line_is = refl; wrote = record { name = target; bytes = bytes; writes = writes; held = held } })) says
+      delivered old report is (inr stores) = torn old new failed target bytes report is writes stores
+
+      pub delivered_leaves : (old mid : Option FileMap) (result : Result Report Wanting) → IfSome old (λ held. verdict held c ≡ v) → mid ≡ old → IfSome mid (λ held. Delivers held new failed target bytes result) → IfSome old (λ held. Leaves table c held new failed result)
+      delivered_leaves None mid result is stays delivers = tt
+      delivered_leaves (Some old) mid (Err wanting) is stays delivers = let D : Option FileMap → Type 0 = λ m. IfSome m (λ held. Delivers held new failed target bytes (Err wanting)) in inl (subst D stays delivers)
+      delivered_leaves (Some old) mid (Ok report) is stays delivers = let D : Option FileMap → Type 0 = λ m. IfSome m (λ held. Delivers held new failed target bytes (Ok report)) in delivered old report is (subst D stays delivers)
 
   -- an image was called
-  pub played_works : (old mid : Option FileMap) (failed : Option (List ℕ)) (steps : ℕ) (calls : List (List ℕ)) (z : Qvm) (result : Result Report Wanting) → IfSome old (λ held. verdict held c ≡ Runs steps calls z) → mid ≡ old →
-      IfOk result (λ report. Tells (image_run z table calls [] steps) report.status report.line.items) → IfSome old (λ held. Works table c held mid failed result)
-  played_works None mid failed steps calls z result is stays tells = tt
-  played_works (Some old) mid failed steps calls z (Err wanting) is stays tells = inl stays
-  played_works (Some old) mid failed steps calls z (Ok report) is stays tells =
-      completes_works (Runs steps calls z) old mid failed report.status report.line.items report is (told_is_end (image_run z table calls [] steps) report.status report.line.items tells)
+  pub played_leaves : (old mid : Option FileMap) (failed : Option (List ℕ)) (steps : ℕ) (calls : List (List ℕ)) (z : Qvm) (result : Result Report Wanting) → IfSome old (λ held. verdict held c ≡ Runs steps calls z) → mid ≡ old →
+      IfOk result (λ report. Tells (image_run z table calls [] steps) report.status report.line.items) → IfSome old (λ held. Leaves table c held mid failed result)
+  played_leaves None mid failed steps calls z result is stays tells = tt
+  played_leaves (Some old) mid failed steps calls z (Err wanting) is stays tells = inl stays
+  played_leaves (Some old) mid failed steps calls z (Ok report) is stays tells =
+      completes_leaves (Runs steps calls z) old mid failed report.status report.line.items report is (told_is_end (image_run z table calls [] steps) report.status report.line.items tells)
       (record { tells = tells; held = stays }) (record { status_is = refl; line_is = refl })
 
   -- a unit was built, and its image was called
-  pub built_works : (old mid new : Option FileMap) (failed : Option (List ℕ)) (steps : ℕ) (calls : List (List ℕ)) (target bytes : List ℕ) (e : Sum) (follower : IsFollower e bytes) (stored : Option Report) (result : Result Report Wanting) → stored ≡ None →
+  pub built_leaves : (old mid new : Option FileMap) (failed : Option (List ℕ)) (steps : ℕ) (calls : List (List ℕ)) (target bytes : List ℕ) (e : Sum) (follower : IsFollower e bytes) (stored : Option Report) (result : Result Report Wanting) → stored ≡ None →
       IfSome old (λ held. verdict held c ≡ Builds steps calls target e) → mid ≡ old → IfSome mid (λ held. Stores held new failed target bytes (Ok stored)) → IfOk result (λ report. Tells (image_run follower.image table calls [] steps) report.status report.line.items) →
-      IfOk result (λ report. TellsValue e calls steps report.status report.line.items) → IfSome old (λ held. Works table c held new failed result)
-  built_works None mid new failed steps calls target bytes e follower stored result none is stays stores tells value = tt
-  built_works (Some old) mid new failed steps calls target bytes e follower stored (Err wanting) none is stays stores tells value =
+      IfOk result (λ report. TellsValue e calls steps report.status report.line.items) → IfSome old (λ held. Leaves table c held new failed result)
+  built_leaves None mid new failed steps calls target bytes e follower stored result none is stays stores tells value = tt
+  built_leaves (Some old) mid new failed steps calls target bytes e follower stored (Err wanting) none is stays stores tells value =
       let S : Option FileMap → Type 0 = λ m. IfSome m (λ held. Stores held new failed target bytes (Ok stored)) in
       let R : Option Report → Type 0 = λ r. Stores old new failed target bytes (Ok r) in
       inr (wrote (Builds steps calls target e) old new target bytes is (refl, follower) (subst R none (subst S stays stores)))
-  built_works (Some old) mid new failed steps calls target bytes e follower stored (Ok report) none is stays stores tells value =
+  built_leaves (Some old) mid new failed steps calls target bytes e follower stored (Ok report) none is stays stores tells value =
       let S : Option FileMap → Type 0 = λ m. IfSome m (λ held. Stores held new failed target bytes (Ok stored)) in
       let R : Option Report → Type 0 = λ r. Stores old new failed target bytes (Ok r) in
-      completes_works (Builds steps calls target e) old new failed report.status report.line.items report is (told_is_end (image_run follower.image table calls [] steps) report.status report.line.items tells)
+      completes_leaves (Builds steps calls target e) old new failed report.status report.line.items report is (told_is_end (image_run follower.image table calls [] steps) report.status report.line.items tells)
       (record { bytes = bytes; follower = follower; tells = tells; value_is = value; held = subst R none (subst S stays stores) }) (record { status_is = refl; line_is = refl })
 
 -- the work of the command that the words stand for
-pub of_command : (table : Table) (c d : Option Command) (old new : Option FileMap) (failed : Option (List ℕ)) (result : Result Report Wanting) → c ≡ d → IfSome old (λ held. Works table c held new failed result) → IfSome old (λ held. Works table d held new failed result)
-of_command table c d old new failed result e works = let P : Option Command → Type 0 = λ x. IfSome old (λ held. Works table x held new failed result) in subst P e works
+pub of_command : (table : Table) (c d : Option Command) (old new : Option FileMap) (failed : Option (List ℕ)) (result : Result Report Wanting) → c ≡ d → IfSome old (λ held. Leaves table c held new failed result) → IfSome old (λ held. Leaves table d held new failed result)
+of_command table c d old new failed result e works = let P : Option Command → Type 0 = λ x. IfSome old (λ held. Leaves table x held new failed result) in subst P e works
 
 -- words that stand for no command
-pub unreadable_works : (table : Table) (old : Option FileMap) (failed : Option (List ℕ)) (result : Result Report Wanting) → IfOk result (λ report. Says Usage (line (codes "usage")) report) → IfSome old (λ held. Works table None held old failed result)
-unreadable_works table old failed result says = refused_works table None Unreadable old old failed Usage (line (codes "usage")) result (if_told old (λ held. refl)) refl tt refl says
+pub unreadable_leaves : (table : Table) (old : Option FileMap) (failed : Option (List ℕ)) (result : Result Report Wanting) → IfOk result (λ report. Says Usage (line (codes "usage")) report) → IfSome old (λ held. Leaves table None held old failed result)
+unreadable_leaves table old failed result says = refused_leaves table None Unreadable old old failed Usage (line (codes "usage")) result (if_told old (λ held. refl)) refl tt refl says
 
 -- a command whose form isn't served yet
-pub unready_works : (table : Table) (c : Command) (old : Option FileMap) (failed : Option (List ℕ)) (result : Result Report Wanting) → task_of c ≡ None → IfOk result (λ report. Says NotYet (line (codes "not yet")) report) → IfSome old (λ held. Works table (Some c) held old failed result)
-unready_works table c old failed result none says = refused_works table (Some c) Unready old old failed NotYet (line (codes "not yet")) result (if_told old (λ held. ap (of_task held) none)) refl tt refl says
+pub unready_leaves : (table : Table) (c : Command) (old : Option FileMap) (failed : Option (List ℕ)) (result : Result Report Wanting) → task_of c ≡ None → IfOk result (λ report. Says NotYet (line (codes "not yet")) report) → IfSome old (λ held. Leaves table (Some c) held old failed result)
+unready_leaves table c old failed result none says = refused_leaves table (Some c) Unready old old failed NotYet (line (codes "not yet")) result (if_told old (λ held. ap (of_task held) none)) refl tt refl says

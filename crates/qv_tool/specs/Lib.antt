@@ -6,6 +6,8 @@ pub mod Damage
 pub mod Names
 pub mod Gathered
 pub mod Verdict
+pub mod Causes
+pub mod Quiet
 pub mod Answers
 pub mod Work
 pub mod Said

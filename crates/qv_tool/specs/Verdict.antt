@@ -137,7 +137,7 @@ refusal_of (Damaged fault) = refusal Image (codes "image: " ++ damage_text fault
 refusal_of (Unlinked file fault) = refusal Assembly (fault_text file fault.line fault.kind)
 refusal_of verdict = None
 
--- a fault of the outside, or want of memory, which may stand in place of what is called for
+-- a fault of the outside, or one of memory, which may stand in place of what is called for
 abbrev pub IsFault : Status → Type 0
 IsFault ReadFault = Unit {0}
 IsFault WriteFault = Unit {0}

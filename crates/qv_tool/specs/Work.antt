@@ -1,10 +1,11 @@
 -- The work of a command before its line is put, and its parts, where the files are told.
-use Rattle.std.specs.Prelude.{◌≡◌, ℕ, ◌≤◌, List, ◌++◌, Contains, length, map, string_bytes, codes, Option, Some, None, ◌⊎◌, Result, Ok, Err}
+use Rattle.std.specs.Prelude.{◌≡◌, ℕ, ◌≤◌, List, ◌++◌, Contains, length, map, string_bytes, codes, Option, Some, None, IfSome, ◌⊎◌, Result, Ok, Err, IfOk}
 use Rattle.asm_link.specs.declared.fault.AsmFault.{AsmFault}
 use Rattle.asm_link.specs.declared.fault.AsmKind.{AsmKind}
 use Rattle.asm_link.specs.declared.fault.AsmKind.TheVariants.{NoMemory as LinkNoMemory}
 use Rattle.asm_link.specs.Shown.{texts_of}
 use Rattle.qv_base.specs.declared.NoMemory.{NoMemory}
+use Rattle.qv_outside.specs.Causes.{Rose}
 use Rattle.qv_outside.specs.FileMap.{FileMap, with_file, Torn}
 use Rattle.qv_outside.specs.Hosts.{Table}
 use Rattle.qv_outside.specs.declared.files.FileFault.{FileFault}
@@ -16,8 +17,9 @@ use Rattle.qcc_front.specs.Follows.{Follows}
 use Rattle.qcc_front.specs.Sum.{Sum, sum_run}
 use Rattle.qv_tool.specs.declared.report.Report.{Report}
 use Rattle.qv_tool.specs.declared.status.Status.{Status}
-use Rattle.qv_tool.specs.declared.status.Status.TheVariants.{Assembly, Image, Missing, ReadFault, WriteFault}
+use Rattle.qv_tool.specs.declared.status.Status.TheVariants.{Done, Missing, Assembly, Image, ReadFault, WriteFault}
 use Rattle.qv_tool.specs.Answers.{Reports, Wrote}
+use Rattle.qv_tool.specs.Causes.{HasCause, Keeper}
 use Rattle.qv_tool.specs.Assembly.{fault_text}
 use Rattle.qv_tool.specs.Damage.{damage_text}
 use Rattle.qv_tool.specs.Ending.{line}
@@ -29,10 +31,15 @@ use Rattle.qv_tool.specs.Gathered.{Found, Lacking, Overlong, gathered}
 use Rattle.qv_tool.specs.Verdict.{named_in, of_files, verdict}
 use Rattle.qv_words.specs.Words.{Command}
 
--- the report is right; where memory is wanting the files are as before, or the command's file is whole
-abbrev pub Works : Table → Option Command → FileMap → Option FileMap → Option (List ℕ) → Result Report NoMemory → Type 0
-Works table c old new failed (Ok report) = Reports table c old new failed report.line.items report.status
-Works table c old new failed (Err _) = (new ≡ Some old) ⊎ Wrote (verdict old c) old new
+-- the report is right; where memory is refused the files are as before, or the command's file is whole
+abbrev pub Leaves : Table → Option Command → FileMap → Option FileMap → Option (List ℕ) → Result Report NoMemory → Type 0
+Leaves table c old new failed (Ok report) = Reports table c old new failed report.line.items report.status
+Leaves table c old new failed (Err _) = (new ≡ Some old) ⊎ Wrote (verdict old c) old new
+
+-- the work of a command: its report is right where the files are told, and has its cause in any case
+pub record Works (table : Table) (c : Option Command) (before after : Keeper) (result : Result Report NoMemory) : Type 0 where
+  pub leaves : IfSome before.held (λ held. Leaves table c held after.held after.failed result)
+  pub cause : IfOk result (λ report. HasCause c before after report.status)
 
 -- a report has this status and line
 pub record Says (status : Status) (text : List ℕ) (report : Report) : Type 0 where
@@ -46,12 +53,16 @@ SaysUnread name report TooLong = Says Missing (line (codes "too long: " ++ name)
 SaysUnread name report Failed = Says ReadFault (line (codes "read fault: " ++ name)) report
 SaysUnread name report ReadNoMemory = ⊥
 
--- a file is written whole, or its write failed and the report says so; where memory is wanting all is as
--- before
+-- a file is written whole, or its write failed and the report says so; where memory is refused all is as before
 abbrev pub Stores : FileMap → Option FileMap → Option (List ℕ) → List ℕ → List ℕ → Result (Option Report) NoMemory → Type 0
 Stores old new failed name bytes (Ok None) = new ≡ Some (with_file old name bytes)
 Stores old new failed name bytes (Ok (Some report)) = (files : FileMap) × (new ≡ Some files) × Torn old files name bytes × (failed ≡ Some name) × Says WriteFault (line (codes "write fault: " ++ name)) report
 Stores old new failed name bytes (Err _) = new ≡ Some old
+
+-- the command's file is written whole and the report says that all is done, or its write failed and the report says so
+abbrev pub Delivers : FileMap → Option FileMap → Option (List ℕ) → List ℕ → List ℕ → Result Report NoMemory → Type 0
+Delivers old new failed name bytes (Ok report) = Stores old new failed name bytes (Ok None) × Says Done (line (codes "done")) report ⊎ Stores old new failed name bytes (Ok (Some report))
+Delivers old new failed name bytes (Err _) = new ≡ Some old
 
 -- the report of a fault of linking in the file of this name, by its kind
 abbrev pub SaysUnlinked : List ℕ → AsmKind → AsmFault → Report → Type 0
@@ -81,10 +92,21 @@ abbrev pub IsListed : Result (List (List ℕ)) ℕ → Listed → Type 0
 IsListed names (Names listed) = names ≡ Ok (map string_bytes listed.items)
 IsListed names (BadLine number) = names ≡ Err number
 
--- a file that is refused is reported with a status of which this holds
-abbrev pub HasStatus : (Status → Type 0) → Sources → Type 0
-HasStatus P (Texts texts) = Unit {0}
-HasStatus P (Refused report) = P report.status
+-- a file that is refused is missing, or one more read failed
+abbrev pub IsUnread : ℕ → ℕ → Status → Type 0
+IsUnread faults faults_now Missing = Unit {0}
+IsUnread faults faults_now ReadFault = Rose faults faults_now
+IsUnread faults faults_now status = ⊥
+
+abbrev pub RefusesUnread : ℕ → ℕ → Sources → Type 0
+RefusesUnread faults faults_now (Texts texts) = Unit {0}
+RefusesUnread faults faults_now (Refused report) = IsUnread faults faults_now report.status
+
+-- the command's file was written, or one more write failed
+abbrev pub IsDelivered : ℕ → ℕ → Status → Type 0
+IsDelivered faults faults_now Done = Unit {0}
+IsDelivered faults faults_now WriteFault = Rose faults faults_now
+IsDelivered faults faults_now status = ⊥
 
 -- there are so many texts
 abbrev pub HasCount : ℕ → Sources → Type 0

@@ -3,7 +3,7 @@ ghost use Rattle.std.specs.Prelude.{◌≡◌, IfOk, string_bytes};
 ghost use Rattle.qv_tool.specs.Damage.{code_text, damage_text};
 ghost use Rattle.qv_tool.specs.Work.{SaysDamaged};
 
-use crate::report::{Report, plain};
+use crate::report::{Report, copied};
 use crate::status::Status;
 use qv_base::NoMemory;
 use qv_image::fault::ImageFault;
@@ -32,13 +32,13 @@ fn damage_text(alloc: Global, fault: ImageFault) -> Result<String, NoMemory>
         ImageFault::HeaderShort(len) => Ok(format!(in alloc; "header short {len}")?),
         ImageFault::BadMagic(word) => Ok(format!(in alloc; "bad magic {word}")?),
         ImageFault::NegativeLength(field) => Ok(format!(in alloc; "negative length {field}")?),
-        ImageFault::NoCode => plain(alloc, "no code"),
+        ImageFault::NoCode => copied(alloc, "no code"),
         ImageFault::CodeTooLarge(len) => Ok(format!(in alloc; "code too large {len}")?),
-        ImageFault::CodeOutside => plain(alloc, "code outside"),
-        ImageFault::DataOutside => plain(alloc, "data outside"),
+        ImageFault::CodeOutside => copied(alloc, "code outside"),
+        ImageFault::DataOutside => copied(alloc, "data outside"),
         ImageFault::DataTooLarge(size) => Ok(format!(in alloc; "data too large {size}")?),
         ImageFault::Code(fault) => code_text(alloc, fault),
-        ImageFault::NoMemory => plain(alloc, "no memory"),
+        ImageFault::NoMemory => copied(alloc, "no memory"),
     }
 }
 
@@ -51,6 +51,6 @@ fn code_text(alloc: Global, fault: CodeFault) -> Result<String, NoMemory>
         CodeFault::FloatOpcode { at, op } => Ok(format!(in alloc; "float opcode {op} at {at}")?),
         CodeFault::BranchOut { at } => Ok(format!(in alloc; "branch out at {at}")?),
         CodeFault::TailLong { left } => Ok(format!(in alloc; "tail {left}")?),
-        CodeFault::NoMemory => plain(alloc, "no memory"),
+        CodeFault::NoMemory => copied(alloc, "no memory"),
     }
 }

@@ -1,10 +1,8 @@
 // Reading several files.
 ghost use Rattle.std.specs.Prelude.{◌≡◌, ◌≤◌, IfOk, IfSome, length, map, string_bytes};
-ghost use Rattle.qv_outside.specs.Causes.{Rose};
-ghost use Rattle.qv_tool.specs.Work.{Gathers, HasCount, HasStatus};
+ghost use Rattle.qv_tool.specs.Work.{Gathers, HasCount, RefusesUnread};
 
 use crate::report::{Report, unread};
-use crate::status::Status;
 use asm_link::fault::AsmFile;
 use qv_base::NoMemory;
 use qv_base::name::Name;
@@ -23,9 +21,7 @@ pub fn gather<F: Files>(alloc: Global, names: &[String], files: &mut F) -> Resul
     ensures same { F.held files.new ≡ F.held files.old }
     ensures gathers { IfSome (F.held files.old) (λ held. Gathers held (F.failed files.new) (map string_bytes names.now) result) }
     ensures count { IfOk result (λ sources. HasCount (length names.now) sources) }
-    ensures read_fault { IfOk result (λ sources. HasStatus (λ status. status ≡ Status.ReadFault → Rose (F.read_faults files.old) (F.read_faults files.new)) sources) }
-    ensures write_fault { IfOk result (λ sources. HasStatus (λ status. ¬ (status ≡ Status.WriteFault)) sources) }
-    ensures no_memory { IfOk result (λ sources. HasStatus (λ status. ¬ (status ≡ Status.NoMemory)) sources) }
+    ensures cause { IfOk result (RefusesUnread (F.read_faults files.old) (F.read_faults files.new)) }
     ensures reads_later { F.read_faults files.old ≤ F.read_faults files.new }
     ensures writes_stay { F.write_faults files.new ≡ F.write_faults files.old }
 {

@@ -4,7 +4,6 @@
 mod damaged;
 mod gather;
 mod list;
-mod plain;
 mod play;
 mod q3asm;
 mod qall;
@@ -12,6 +11,7 @@ mod qcc;
 mod qdis;
 mod qrun;
 mod report;
+mod served;
 pub mod status;
 mod store;
 pub mod tool;

@@ -5,8 +5,9 @@ ghost use Rattle.vm_core.specs.Calls.{calls_run, image_run};
 ghost use Rattle.vm_core.specs.Machine.{step};
 ghost use Rattle.vm_core.specs.Module.{code_of, state_of};
 ghost use Rattle.qv_tool.specs.Ending.{EndsBy, Tells};
+ghost use Rattle.qv_tool.specs.Quiet.{surroundings};
 
-use crate::report::{Report, ended};
+use crate::report::{Report, calls_ended};
 use qv_base::NoMemory;
 use qv_base::limits::CALL_WORDS;
 use qv_image::image::Image;
@@ -27,15 +28,11 @@ pub fn play<H: Host, O: Sink>(
     out: &mut O,
 ) -> Result<Report, NoMemory>
     ensures tells { IfOk result (λ report. Tells (image_run (qvm_of image.now) (H.table host.old) calls.now [] steps) report.status report.line.items) }
-    ensures out_quiet { O.written out.new ≡ O.written out.old }
-    ensures host_asked { H.asked host.new ≡ H.asked host.old }
-    ensures host_replied { H.replied host.new ≡ H.replied host.old }
-    ensures host_table { H.table host.new ≡ H.table host.old }
-    ensures host_kept { H.kept host.new ≡ H.kept host.old }
+    ensures quiet { surroundings (O.written out.new) (H.asked host.new) (H.replied host.new) (H.table host.new) (H.kept host.new) ≡ surroundings (O.written out.old) (H.asked host.old) (H.replied host.old) (H.table host.old) (H.kept host.old) }
 {
     let mut machine = Module::load(alloc, image)?;
     let stop = make_calls(&mut machine, steps, calls, host, out);
-    ended(alloc, stop)
+    calls_ended(alloc, stop)
 }
 
 // Makes the calls in order over its memory. The stop is that of the call that didn't return, else
@@ -48,11 +45,7 @@ fn make_calls<H: Host, O: Sink>(
     out: &mut O,
 ) -> Stop
     ensures stop { EndsBy (calls_run (step (code_of machine.old) (H.table host.old)) steps calls.now (state_of machine.old).memory []) result }
-    ensures out_quiet { O.written out.new ≡ O.written out.old }
-    ensures host_asked { H.asked host.new ≡ H.asked host.old }
-    ensures host_replied { H.replied host.new ≡ H.replied host.old }
-    ensures host_table { H.table host.new ≡ H.table host.old }
-    ensures host_kept { H.kept host.new ≡ H.kept host.old }
+    ensures quiet { surroundings (O.written out.new) (H.asked host.new) (H.replied host.new) (H.table host.new) (H.kept host.new) ≡ surroundings (O.written out.old) (H.asked host.old) (H.replied host.old) (H.table host.old) (H.kept host.old) }
 {
     let mut last = 0;
     for args in calls {

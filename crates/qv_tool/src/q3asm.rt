@@ -1,7 +1,7 @@
 // The command q3asm: links assembly files to an image.
 ghost use Rattle.std.specs.Prelude.{◌≡◌, ◌<◌, ◌^◌, IfOk, IfSome, Some, length, map, string_bytes};
-ghost use Rattle.qv_outside.specs.Causes.{Rose};
 ghost use Rattle.qv_outside.specs.Hosts.{Table};
+ghost use Rattle.qv_tool.specs.Causes.{IsServed, keeper};
 ghost use Rattle.qv_tool.specs.Task.{AssembleList, task_of};
 ghost use Rattle.qv_tool.specs.Verdict.{name_at};
 ghost use Rattle.qv_tool.specs.Work.{Asks, Works, SaysUnlinked};
@@ -9,9 +9,8 @@ ghost use Rattle.qv_words.specs.Words.{Command};
 
 use crate::gather::{Sources, gather};
 use crate::list::{Listed, names_in};
-use crate::report::{Report, done, unread};
-use crate::status::Status;
-use crate::store::store;
+use crate::report::{Report, unread};
+use crate::store::deliver;
 use crate::unlinked::{bad_list, unlinked};
 use asm_link::fault::{AsmFault, AsmKind};
 use asm_link::link::link;
@@ -28,10 +27,7 @@ pub fn q3asm<F: Files>(
     files: &mut F,
 ) -> Result<Report, NoMemory>
     requires { length names.now < 2 ^ 32 }
-    ensures works { (table : Table) (c : Command) → IfSome (F.held files.old) (λ held. Asks c image.now (map string_bytes names.now) held → Works table (Some c) held (F.held files.new) (F.failed files.new) result) }
-    ensures read_fault { IfOk result (λ report. report.status ≡ Status.ReadFault → Rose (F.read_faults files.old) (F.read_faults files.new)) }
-    ensures write_fault { IfOk result (λ report. report.status ≡ Status.WriteFault → Rose (F.write_faults files.old) (F.write_faults files.new)) }
-    ensures no_memory { IfOk result (λ report. ¬ (report.status ≡ Status.NoMemory)) }
+    ensures { (table : Table) (c : Command) → IsServed (Some c) → IfSome (F.held files.old) (Asks c image.now (map string_bytes names.now)) → Works table (Some c) (keeper (F.held files.old) (F.failed files.old) (F.read_faults files.old) (F.write_faults files.old)) (keeper (F.held files.new) (F.failed files.new) (F.read_faults files.new) (F.write_faults files.new)) result }
 {
     let texts = match gather(alloc, names, files)? {
         Sources::Texts(texts) => texts,
@@ -42,11 +38,7 @@ pub fn q3asm<F: Files>(
         Err(fault) => return refusal(alloc, names, &fault),
     };
     let bytes = write_image(alloc, &linked)?;
-    let report = done(alloc)?;
-    match store(alloc, files, image, &bytes)? {
-        None => Ok(report),
-        Some(fault) => Ok(fault),
-    }
+    deliver(alloc, files, image, &bytes)
 }
 
 /// Reads the list, and does so with the files that it names.
@@ -56,10 +48,7 @@ pub fn q3asm_list<F: Files>(
     list: &str,
     files: &mut F,
 ) -> Result<Report, NoMemory>
-    ensures works { (table : Table) (c : Command) → task_of c ≡ Some (AssembleList image.now list.now) → IfSome (F.held files.old) (λ held. Works table (Some c) held (F.held files.new) (F.failed files.new) result) }
-    ensures read_fault { IfOk result (λ report. report.status ≡ Status.ReadFault → Rose (F.read_faults files.old) (F.read_faults files.new)) }
-    ensures write_fault { IfOk result (λ report. report.status ≡ Status.WriteFault → Rose (F.write_faults files.old) (F.write_faults files.new)) }
-    ensures no_memory { IfOk result (λ report. ¬ (report.status ≡ Status.NoMemory)) }
+    ensures { (table : Table) (c : Command) → task_of c ≡ Some (AssembleList image.now list.now) → Works table (Some c) (keeper (F.held files.old) (F.failed files.old) (F.read_faults files.old) (F.write_faults files.old)) (keeper (F.held files.new) (F.failed files.new) (F.read_faults files.new) (F.write_faults files.new)) result }
 {
     let bytes = match files.read(alloc, list) {
         Ok(bytes) => bytes,

@@ -1,9 +1,10 @@
 // The command qall: compiles a unit, links it, writes its image and makes the calls.
-ghost use Rattle.std.specs.Prelude.{◌≡◌, IfOk, IfSome, Some};
+ghost use Rattle.std.specs.Prelude.{◌≡◌, IfOk, Some};
 ghost use Rattle.qv_image.specs.Shown.{qvm_of};
-ghost use Rattle.qv_outside.specs.Causes.{Rose};
 ghost use Rattle.qcc_front.specs.Assembles.{Assembles};
 ghost use Rattle.qcc_front.specs.Unit.{sum_of};
+ghost use Rattle.qv_tool.specs.Causes.{keeper};
+ghost use Rattle.qv_tool.specs.Quiet.{surroundings};
 ghost use Rattle.qv_tool.specs.Task.{Build, task_of};
 ghost use Rattle.qv_tool.specs.Work.{IsBuilt, Works};
 ghost use Rattle.qv_words.specs.Calls.{AreCalls};
@@ -11,7 +12,6 @@ ghost use Rattle.qv_words.specs.Words.{Command};
 
 use crate::play::play;
 use crate::report::{Report, not_yet, unread};
-use crate::status::Status;
 use crate::store::store;
 use asm_link::fault::{AsmFile, AsmKind};
 use asm_link::link::link;
@@ -39,15 +39,8 @@ pub fn qall<F: Files, O: Sink, H: Host>(
     host: &mut H,
 ) -> Result<Report, NoMemory>
     requires { AreCalls calls.now }
-    ensures works { (c : Command) → task_of c ≡ Some (Build steps calls.now image.now unit.now) → IfSome (F.held files.old) (λ held. Works (H.table host.old) (Some c) held (F.held files.new) (F.failed files.new) result) }
-    ensures read_fault { IfOk result (λ report. report.status ≡ Status.ReadFault → Rose (F.read_faults files.old) (F.read_faults files.new)) }
-    ensures write_fault { IfOk result (λ report. report.status ≡ Status.WriteFault → Rose (F.write_faults files.old) (F.write_faults files.new)) }
-    ensures no_memory { IfOk result (λ report. ¬ (report.status ≡ Status.NoMemory)) }
-    ensures out_quiet { O.written out.new ≡ O.written out.old }
-    ensures host_asked { H.asked host.new ≡ H.asked host.old }
-    ensures host_replied { H.replied host.new ≡ H.replied host.old }
-    ensures host_table { H.table host.new ≡ H.table host.old }
-    ensures host_kept { H.kept host.new ≡ H.kept host.old }
+    ensures works { (c : Command) → task_of c ≡ Some (Build steps calls.now image.now unit.now) → Works (H.table host.old) (Some c) (keeper (F.held files.old) (F.failed files.old) (F.read_faults files.old) (F.write_faults files.old)) (keeper (F.held files.new) (F.failed files.new) (F.read_faults files.new) (F.write_faults files.new)) result }
+    ensures quiet { surroundings (O.written out.new) (H.asked host.new) (H.replied host.new) (H.table host.new) (H.kept host.new) ≡ surroundings (O.written out.old) (H.asked host.old) (H.replied host.old) (H.table host.old) (H.kept host.old) }
 {
     let source = match files.read(alloc, unit) {
         Ok(source) => source,

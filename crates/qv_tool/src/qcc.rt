@@ -1,14 +1,13 @@
 // The command qcc: compiles a unit to assembly text.
-ghost use Rattle.std.specs.Prelude.{◌≡◌, IfOk, IfSome, Some, string_bytes};
-ghost use Rattle.qv_outside.specs.Causes.{Rose};
+ghost use Rattle.std.specs.Prelude.{◌≡◌, IfOk, Some, string_bytes};
 ghost use Rattle.qv_outside.specs.Hosts.{Table};
+ghost use Rattle.qv_tool.specs.Causes.{keeper};
 ghost use Rattle.qv_tool.specs.Task.{Compile, task_of, text_name};
 ghost use Rattle.qv_tool.specs.Work.{Works};
 ghost use Rattle.qv_words.specs.Words.{Command};
 
-use crate::report::{Report, done, not_yet, unread};
-use crate::status::Status;
-use crate::store::store;
+use crate::report::{Report, not_yet, unread};
+use crate::store::deliver;
 use qcc_front::compile::compile;
 use qcc_front::unit::Unit;
 use qv_base::NoMemory;
@@ -23,10 +22,7 @@ pub fn qcc<F: Files>(
     unit: &str,
     files: &mut F,
 ) -> Result<Report, NoMemory>
-    ensures works { (table : Table) (c : Command) → task_of c ≡ Some (Compile folder.now unit.now) → IfSome (F.held files.old) (λ held. Works table (Some c) held (F.held files.new) (F.failed files.new) result) }
-    ensures read_fault { IfOk result (λ report. report.status ≡ Status.ReadFault → Rose (F.read_faults files.old) (F.read_faults files.new)) }
-    ensures write_fault { IfOk result (λ report. report.status ≡ Status.WriteFault → Rose (F.write_faults files.old) (F.write_faults files.new)) }
-    ensures no_memory { IfOk result (λ report. ¬ (report.status ≡ Status.NoMemory)) }
+    ensures { (table : Table) (c : Command) → task_of c ≡ Some (Compile folder.now unit.now) → Works table (Some c) (keeper (F.held files.old) (F.failed files.old) (F.read_faults files.old) (F.write_faults files.old)) (keeper (F.held files.new) (F.failed files.new) (F.read_faults files.new) (F.write_faults files.new)) result }
 {
     let source = match files.read(alloc, unit) {
         Ok(source) => source,
@@ -37,11 +33,7 @@ pub fn qcc<F: Files>(
     };
     let text = compile(alloc, &parsed)?;
     let name = text_name(alloc, folder, unit)?;
-    let report = done(alloc)?;
-    match store(alloc, files, name.as_str(), &text)? {
-        None => Ok(report),
-        Some(fault) => Ok(fault),
-    }
+    deliver(alloc, files, name.as_str(), &text)
 }
 
 // The name of the unit's text.

@@ -1,6 +1,7 @@
 // The command qrun: calls an image.
-ghost use Rattle.std.specs.Prelude.{◌≡◌, IfOk, IfSome, Some};
-ghost use Rattle.qv_outside.specs.Causes.{Rose};
+ghost use Rattle.std.specs.Prelude.{◌≡◌, Some};
+ghost use Rattle.qv_tool.specs.Causes.{keeper};
+ghost use Rattle.qv_tool.specs.Quiet.{surroundings};
 ghost use Rattle.qv_tool.specs.Task.{Run, task_of};
 ghost use Rattle.qv_tool.specs.Work.{Works};
 ghost use Rattle.qv_words.specs.Words.{Command};
@@ -8,7 +9,6 @@ ghost use Rattle.qv_words.specs.Words.{Command};
 use crate::damaged::damaged;
 use crate::play::play;
 use crate::report::{Report, unread};
-use crate::status::Status;
 use qv_base::NoMemory;
 use qv_base::limits::CALL_WORDS;
 use qv_image::read::read_image;
@@ -27,15 +27,8 @@ pub fn qrun<F: Files, O: Sink, H: Host>(
     out: &mut O,
     host: &mut H,
 ) -> Result<Report, NoMemory>
-    ensures works { (c : Command) → task_of c ≡ Some (Run steps calls.now image.now) → IfSome (F.held files.old) (λ held. Works (H.table host.old) (Some c) held (F.held files.new) (F.failed files.new) result) }
-    ensures read_fault { IfOk result (λ report. report.status ≡ Status.ReadFault → Rose (F.read_faults files.old) (F.read_faults files.new)) }
-    ensures write_fault { IfOk result (λ report. ¬ (report.status ≡ Status.WriteFault)) }
-    ensures no_memory { IfOk result (λ report. ¬ (report.status ≡ Status.NoMemory)) }
-    ensures out_quiet { O.written out.new ≡ O.written out.old }
-    ensures host_asked { H.asked host.new ≡ H.asked host.old }
-    ensures host_replied { H.replied host.new ≡ H.replied host.old }
-    ensures host_table { H.table host.new ≡ H.table host.old }
-    ensures host_kept { H.kept host.new ≡ H.kept host.old }
+    ensures works { (c : Command) → task_of c ≡ Some (Run steps calls.now image.now) → Works (H.table host.old) (Some c) (keeper (F.held files.old) (F.failed files.old) (F.read_faults files.old) (F.write_faults files.old)) (keeper (F.held files.new) (F.failed files.new) (F.read_faults files.new) (F.write_faults files.new)) result }
+    ensures quiet { surroundings (O.written out.new) (H.asked host.new) (H.replied host.new) (H.table host.new) (H.kept host.new) ≡ surroundings (O.written out.old) (H.asked host.old) (H.replied host.old) (H.table host.old) (H.kept host.old) }
 {
     let bytes = match files.read(alloc, image) {
         Ok(bytes) => bytes,

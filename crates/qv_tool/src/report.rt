@@ -20,31 +20,30 @@ pub struct Report {
 pub fn done(alloc: Global) -> Result<Report, NoMemory>
     ensures { IfOk result (λ report. Says Status.Done (line (codes "done")) report) }
 {
-    let line = format!(in alloc; "done\n")?;
-    Ok(Report {
-        status: Status::Done,
-        line: line.into_bytes(),
-    })
+    say(alloc, Status::Done, "done")
 }
 
 /// The words stand for no command.
 pub fn usage(alloc: Global) -> Result<Report, NoMemory>
     ensures { IfOk result (λ report. Says Status.Usage (line (codes "usage")) report) }
 {
-    let line = format!(in alloc; "usage\n")?;
-    Ok(Report {
-        status: Status::Usage,
-        line: line.into_bytes(),
-    })
+    say(alloc, Status::Usage, "usage")
 }
 
 /// The command or the file is of a form that isn't served yet.
 pub fn not_yet(alloc: Global) -> Result<Report, NoMemory>
     ensures { IfOk result (λ report. Says Status.NotYet (line (codes "not yet")) report) }
 {
-    let line = format!(in alloc; "not yet\n")?;
+    say(alloc, Status::NotYet, "not yet")
+}
+
+// The status, told by this text.
+fn say(alloc: Global, status: Status, text: &str) -> Result<Report, NoMemory>
+    ensures { IfOk result (λ report. Says status (line text.now) report) }
+{
+    let line = format!(in alloc; "{text}\n")?;
     Ok(Report {
-        status: Status::NotYet,
+        status,
         line: line.into_bytes(),
     })
 }
@@ -79,8 +78,8 @@ pub fn write_fault(alloc: Global, name: &str) -> Result<Report, NoMemory>
     })
 }
 
-/// The module's call came to this stop.
-pub fn ended(alloc: Global, stop: Stop) -> Result<Report, NoMemory>
+/// The calls came to their end by this stop.
+pub fn calls_ended(alloc: Global, stop: Stop) -> Result<Report, NoMemory>
     ensures { IfOk result (λ report. Says (stop_status stop) (stop_line stop) report) }
 {
     let line = match stop {
@@ -111,29 +110,29 @@ fn stop_text(alloc: Global, stop: Stop) -> Result<String, NoMemory>
     ensures { IfOk result (λ text. string_bytes text ≡ stop_text stop) }
 {
     match stop {
-        Stop::Returned(_) => plain(alloc, "returned"),
-        Stop::Budget => plain(alloc, "budget used"),
-        Stop::ModuleError => plain(alloc, "module error"),
-        Stop::OperandOver => plain(alloc, "operand stack over"),
-        Stop::OperandUnder => plain(alloc, "operand stack under"),
-        Stop::StackOver => plain(alloc, "program stack over"),
-        Stop::StackUnder => plain(alloc, "program stack under"),
+        Stop::Returned(_) => copied(alloc, "returned"),
+        Stop::Budget => copied(alloc, "budget used"),
+        Stop::ModuleError => copied(alloc, "module error"),
+        Stop::OperandOver => copied(alloc, "operand stack over"),
+        Stop::OperandUnder => copied(alloc, "operand stack under"),
+        Stop::StackOver => copied(alloc, "program stack over"),
+        Stop::StackUnder => copied(alloc, "program stack under"),
         Stop::JumpOut(number) => Ok(format!(in alloc; "jump out {number}")?),
-        Stop::FellOff => plain(alloc, "fell off"),
-        Stop::DivideZero => plain(alloc, "divide zero"),
-        Stop::DivideOver => plain(alloc, "divide over"),
-        Stop::CopyRange => plain(alloc, "copy range"),
+        Stop::FellOff => copied(alloc, "fell off"),
+        Stop::DivideZero => copied(alloc, "divide zero"),
+        Stop::DivideOver => copied(alloc, "divide over"),
+        Stop::CopyRange => copied(alloc, "copy range"),
         Stop::UnknownTrap(number) => Ok(format!(in alloc; "unknown trap {number}")?),
         Stop::TrapRange { number, argument } => {
             Ok(format!(in alloc; "trap {number} argument {argument} outside")?)
         }
-        Stop::HostFault => plain(alloc, "host fault"),
-        Stop::OutFault => plain(alloc, "out fault"),
+        Stop::HostFault => copied(alloc, "host fault"),
+        Stop::OutFault => copied(alloc, "out fault"),
     }
 }
 
 /// A text of its own.
-pub fn plain(alloc: Global, text: &str) -> Result<String, NoMemory>
+pub fn copied(alloc: Global, text: &str) -> Result<String, NoMemory>
     ensures { IfOk result (λ copy. string_bytes copy ≡ text.now) }
 {
     Ok(String::from_str(alloc, text)?)

@@ -23,15 +23,15 @@ pub enum Status {
     ReadFault,
     /// A write of a file, or of the line that ends the call, failed.
     WriteFault,
-    /// Memory was wanting.
+    /// Memory was refused.
     NoMemory,
     /// The command or the file is of a form that isn't served yet.
     NotYet,
 }
 
 /// The status's number, with which the program exits.
-pub fn status_code(status: Status) -> u8
-    ensures { result ≡ code_of status }
+pub fn status_code(status: &Status) -> u8
+    ensures { result ≡ code_of status.now }
 {
     match status {
         Status::Done => 0,

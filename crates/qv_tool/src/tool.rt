@@ -1,22 +1,24 @@
 // The top call.
-ghost use Rattle.std.specs.Prelude.{◌≡◌, ◌⊎◌, ◌++◌, map, option_map, string_bytes, IfOk, IfSome, Some, codes};
+ghost use Rattle.std.specs.Prelude.{◌≡◌, ◌⊎◌, ◌++◌, map, option_map, string_bytes, IfOk, IfSome, Some, None, codes};
 ghost use Rattle.qv_outside.specs.Causes.{Rose};
 ghost use Rattle.qv_outside.specs.Told.{Appends};
 ghost use Rattle.qv_tool.specs.Answers.{Completed, LineFailed, ReadFailed, Refused, WriteFailed, Wrote};
+ghost use Rattle.qv_tool.specs.Causes.{IsUnserved, MayBeUnready, keeper};
 ghost use Rattle.qv_tool.specs.Ending.{line};
-ghost use Rattle.qv_tool.specs.Said.{Said};
+ghost use Rattle.qv_tool.specs.Quiet.{surroundings};
+ghost use Rattle.qv_tool.specs.Said.{IsAnswered, Said};
 ghost use Rattle.qv_tool.specs.Verdict.{IsCalledFor, IsEnd, IsFault, IsRefusal, refusal_of, verdict};
 ghost use Rattle.qv_tool.specs.Work.{Works};
 ghost use Rattle.qv_words.specs.Shown.{KeepsLimits, command_shown};
 ghost use Rattle.qv_words.specs.Words.{reading};
 
-use crate::plain::plain_unit;
 use crate::q3asm::{q3asm, q3asm_list};
 use crate::qall::qall;
 use crate::qcc::qcc;
 use crate::qdis::qdis;
 use crate::qrun::qrun;
 use crate::report::{Report, not_yet, usage};
+use crate::served::plain_unit;
 use crate::status::Status;
 use qv_base::NoMemory;
 use qv_outside::files::Files;
@@ -47,6 +49,13 @@ pub fn tool<F: Files, O: Sink, E: Sink, H: Host>(
     // that qall wrote follows the unit. The line tells how the calls ended.
     ensures completed { IfSome (F.held files.old) (λ held. IsEnd result → Completed (H.table host.old) (reading (map string_bytes words.now)) held (F.held files.new) result (E.written err.old) (E.written err.new)) }
 
+    // Usage comes exactly for words that stand for no command, and not yet for a command of a form that isn't
+    // served yet, also where the files aren't told. In its place the put of the line may fail, or memory be refused.
+    ensures usage { result ≡ Status.Usage → reading (map string_bytes words.now) ≡ None }
+    ensures unreadable { reading (map string_bytes words.now) ≡ None → IsAnswered Status.Usage (E.faults err.old) (E.faults err.new) result }
+    ensures not_yet { result ≡ Status.NotYet → MayBeUnready (reading (map string_bytes words.now)) }
+    ensures unserved { IsUnserved (reading (map string_bytes words.now)) → IsAnswered Status.NotYet (E.faults err.old) (E.faults err.new) result }
+
     // A refusal changes no file, and the line tells it.
     ensures refused { IfSome (F.held files.old) (λ held. IsRefusal result → Refused (reading (map string_bytes words.now)) held (F.held files.new) result (E.written err.old) (E.written err.new)) }
 
@@ -61,7 +70,7 @@ pub fn tool<F: Files, O: Sink, E: Sink, H: Host>(
         (Rose (F.write_faults files.old) (F.write_faults files.new) × WriteFailed (reading (map string_bytes words.now)) held (F.held files.new) (F.failed files.new) (E.written err.old) (E.written err.new))
         ⊎ (Rose (E.faults err.old) (E.faults err.new) × LineFailed (H.table host.old) (reading (map string_bytes words.now)) held (F.held files.new) (F.failed files.new) (F.read_faults files.old) (F.read_faults files.new) (F.write_faults files.old) (F.write_faults files.new) (E.written err.old) (E.written err.new))) }
 
-    // Where memory is wanting, the line says so, and each name holds what it held or its whole new bytes.
+    // Where memory is refused, the line says so, and each name holds what it held or its whole new bytes.
     ensures memory_line { result ≡ Status.NoMemory → Appends (E.written err.old) (E.written err.new) (line (codes "no memory")) }
     ensures no_memory { IfSome (F.held files.old) (λ held. result ≡ Status.NoMemory → (F.held files.new ≡ Some held) ⊎ Wrote (verdict held (reading (map string_bytes words.now))) held (F.held files.new)) }
 
@@ -86,15 +95,8 @@ fn work<F: Files, O: Sink, H: Host>(
     out: &mut O,
     host: &mut H,
 ) -> Result<Report, NoMemory>
-    ensures works { IfSome (F.held files.old) (λ held. Works (H.table host.old) (reading (map string_bytes words.now)) held (F.held files.new) (F.failed files.new) result) }
-    ensures read_fault { IfOk result (λ report. report.status ≡ Status.ReadFault → Rose (F.read_faults files.old) (F.read_faults files.new)) }
-    ensures write_fault { IfOk result (λ report. report.status ≡ Status.WriteFault → Rose (F.write_faults files.old) (F.write_faults files.new)) }
-    ensures no_memory { IfOk result (λ report. ¬ (report.status ≡ Status.NoMemory)) }
-    ensures out_quiet { O.written out.new ≡ O.written out.old }
-    ensures host_asked { H.asked host.new ≡ H.asked host.old }
-    ensures host_replied { H.replied host.new ≡ H.replied host.old }
-    ensures host_table { H.table host.new ≡ H.table host.old }
-    ensures host_kept { H.kept host.new ≡ H.kept host.old }
+    ensures works { Works (H.table host.old) (reading (map string_bytes words.now)) (keeper (F.held files.old) (F.failed files.old) (F.read_faults files.old) (F.write_faults files.old)) (keeper (F.held files.new) (F.failed files.new) (F.read_faults files.new) (F.write_faults files.new)) result }
+    ensures quiet { surroundings (O.written out.new) (H.asked host.new) (H.replied host.new) (H.table host.new) (H.kept host.new) ≡ surroundings (O.written out.old) (H.asked host.old) (H.replied host.old) (H.table host.old) (H.kept host.old) }
 {
     match read_words(alloc, words)? {
         Some(command) => serve(alloc, &command, files, out, host),
@@ -111,15 +113,8 @@ fn serve<F: Files, O: Sink, H: Host>(
     host: &mut H,
 ) -> Result<Report, NoMemory>
     requires { KeepsLimits command.now }
-    ensures works { IfSome (F.held files.old) (λ held. Works (H.table host.old) (Some (command_shown command.now)) held (F.held files.new) (F.failed files.new) result) }
-    ensures read_fault { IfOk result (λ report. report.status ≡ Status.ReadFault → Rose (F.read_faults files.old) (F.read_faults files.new)) }
-    ensures write_fault { IfOk result (λ report. report.status ≡ Status.WriteFault → Rose (F.write_faults files.old) (F.write_faults files.new)) }
-    ensures no_memory { IfOk result (λ report. ¬ (report.status ≡ Status.NoMemory)) }
-    ensures out_quiet { O.written out.new ≡ O.written out.old }
-    ensures host_asked { H.asked host.new ≡ H.asked host.old }
-    ensures host_replied { H.replied host.new ≡ H.replied host.old }
-    ensures host_table { H.table host.new ≡ H.table host.old }
-    ensures host_kept { H.kept host.new ≡ H.kept host.old }
+    ensures works { Works (H.table host.old) (Some (command_shown command.now)) (keeper (F.held files.old) (F.failed files.old) (F.read_faults files.old) (F.write_faults files.old)) (keeper (F.held files.new) (F.failed files.new) (F.read_faults files.new) (F.write_faults files.new)) result }
+    ensures quiet { surroundings (O.written out.new) (H.asked host.new) (H.replied host.new) (H.table host.new) (H.kept host.new) ≡ surroundings (O.written out.old) (H.asked host.old) (H.replied host.old) (H.table host.old) (H.kept host.old) }
 {
     match command {
         Command::Qcc {

@@ -1,7 +1,7 @@
 // Reports of faults in assembly.
-ghost use Rattle.std.specs.Prelude.{◌≡◌, ◌++◌, IfOk, codes};
+ghost use Rattle.std.specs.Prelude.{◌≡◌, IfOk};
 ghost use Rattle.asm_link.specs.declared.fault.AsmKind.{AsmKind};
-ghost use Rattle.qv_tool.specs.Assembly.{fault_text, is_behind, kind_text, line_text, place_text};
+ghost use Rattle.qv_tool.specs.Assembly.{fault_text, is_behind, kind_words, line_text, object_text, place_text};
 ghost use Rattle.qv_tool.specs.Ending.{line};
 ghost use Rattle.qv_tool.specs.Work.{Says};
 
@@ -18,7 +18,8 @@ pub fn unlinked(alloc: Global, name: &str, number: u32, kind: &AsmKind) -> Resul
 {
     let mut line = place_text(alloc, name, number, is_behind(kind))?;
     line.extend_from_slice(b": ")?;
-    line.extend_from_slice(&kind_text(alloc, kind)?)?;
+    line.extend_from_slice(kind_words(kind).as_bytes())?;
+    line.extend_from_slice(&object_text(alloc, kind)?)?;
     line.push(b'\n')?;
     Ok(Report {
         status: Status::Assembly,
@@ -51,28 +52,40 @@ fn is_behind(kind: &AsmKind) -> bool
     matches!(kind, AsmKind::EmptyCode | AsmKind::DataTooLarge(_))
 }
 
-fn kind_text(alloc: Global, kind: &AsmKind) -> Result<Vec<u8>, NoMemory>
-    ensures { IfOk result (λ text. text.items ≡ kind_text kind.now) }
+// What is wrong.
+fn kind_words(kind: &AsmKind) -> &'static str
+    ensures { result.now ≡ kind_words kind.now }
 {
     match kind {
-        AsmKind::Line(fault) => plain(alloc, line_text(*fault)),
-        AsmKind::Redefined(name) => named(alloc, "redefined ", name.bytes()),
-        AsmKind::MixedSegments(name) => named(alloc, "mixed segments ", name.bytes()),
-        AsmKind::WrongSegment => plain(alloc, "wrong segment"),
-        AsmKind::OutsideProc => plain(alloc, "outside proc"),
-        AsmKind::FrameTooLarge => plain(alloc, "frame too large"),
-        AsmKind::ArgTooFar => plain(alloc, "argument too far"),
-        AsmKind::UndefinedName(name) => named(alloc, "undefined ", name.bytes()),
-        AsmKind::BranchFar => plain(alloc, "branch too far"),
-        AsmKind::CodeTooLarge => plain(alloc, "code too large"),
-        AsmKind::EmptyCode => plain(alloc, "empty code"),
-        AsmKind::DataTooLarge(size) => {
-            let text = format!(in alloc; "data too large {size}")?;
-            Ok(text.into_bytes())
-        }
-        AsmKind::BadList => plain(alloc, "bad name"),
-        AsmKind::NoMemory => plain(alloc, "no memory"),
+        AsmKind::Line(fault) => line_text(*fault),
+        AsmKind::Redefined(_) => "redefined ",
+        AsmKind::MixedSegments(_) => "mixed segments ",
+        AsmKind::WrongSegment => "wrong segment",
+        AsmKind::OutsideProc => "outside proc",
+        AsmKind::FrameTooLarge => "frame too large",
+        AsmKind::ArgTooFar => "argument too far",
+        AsmKind::UndefinedName(_) => "undefined ",
+        AsmKind::BranchFar => "branch too far",
+        AsmKind::CodeTooLarge => "code too large",
+        AsmKind::EmptyCode => "empty code",
+        AsmKind::DataTooLarge(_) => "data too large ",
+        AsmKind::BadList => "bad name",
+        AsmKind::NoMemory => "no memory",
     }
+}
+
+// The name or the size that it is wrong with.
+fn object_text(alloc: Global, kind: &AsmKind) -> Result<Vec<u8>, NoMemory>
+    ensures { IfOk result (λ text. text.items ≡ object_text kind.now) }
+{
+    let text = match kind {
+        AsmKind::Redefined(name) | AsmKind::MixedSegments(name) | AsmKind::UndefinedName(name) => {
+            name.bytes().to_vec(alloc)?
+        }
+        AsmKind::DataTooLarge(size) => format!(in alloc; "{size}")?.into_bytes(),
+        _ => Vec::new(alloc),
+    };
+    Ok(text)
 }
 
 fn line_text(fault: LineFault) -> &'static str
@@ -86,18 +99,4 @@ fn line_text(fault: LineFault) -> &'static str
         LineFault::BadNumber => "bad number",
         LineFault::ExtraWord => "extra word",
     }
-}
-
-fn plain(alloc: Global, text: &str) -> Result<Vec<u8>, NoMemory>
-    ensures { IfOk result (λ bytes. bytes.items ≡ text.now) }
-{
-    Ok(text.as_bytes().to_vec(alloc)?)
-}
-
-fn named(alloc: Global, text: &str, name: &[u8]) -> Result<Vec<u8>, NoMemory>
-    ensures { IfOk result (λ bytes. bytes.items ≡ text.now ++ name.now) }
-{
-    let mut bytes = text.as_bytes().to_vec(alloc)?;
-    bytes.extend_from_slice(name)?;
-    Ok(bytes)
 }

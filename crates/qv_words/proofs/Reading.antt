@@ -6,7 +6,7 @@ use Rattle.std.proofs.lemmas.List.{drop_more, drop_all}
 use Rattle.qv_words.specs.declared.verb.Verb.{Verb}
 use Rattle.qv_words.specs.declared.verb.Switch.TheVariants.{NextCall}
 use Rattle.qv_words.specs.Names.{begins_with_dash}
-use Rattle.qv_words.specs.Words.{Options, Command, switch_of, is_switch, with_switch, with_option, command_with, read_from}
+use Rattle.qv_words.specs.Words.{Options, Command, is_switch, with_switch, with_option, command_with, read_from}
 
 no_switch : (word : List ℕ) → begins_with_dash word ≡ false → is_switch word ≡ false
 no_switch [] plain = refl

@@ -211,10 +211,7 @@ fn steps_in(verb: Verb, given: Option<u64>) -> u64
 }
 
 // The macros, each with its text, in order.
-fn macros(
-    alloc: Global,
-    defs: IndexMap<String, String>,
-) -> Result<Vec<(String, String)>, NoMemory>
+fn macros(alloc: Global, defs: IndexMap<String, String>) -> Result<Vec<(String, String)>, NoMemory>
     ensures { IfOk result (λ all. all.items ≡ defs.entries) }
 {
     let all = defs.into_iter().collect(alloc)?;

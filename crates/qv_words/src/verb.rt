@@ -101,7 +101,10 @@ pub fn takes(verb: Verb, option: OptionName) -> bool
         Verb::Disassemble => false,
         Verb::Run => matches!(option, OptionName::Steps | OptionName::Word),
         Verb::Build => !matches!(option, OptionName::Folder | OptionName::ListFile),
-        Verb::Generate => matches!(option, OptionName::Image | OptionName::Steps | OptionName::Word),
+        Verb::Generate => matches!(
+            option,
+            OptionName::Image | OptionName::Steps | OptionName::Word
+        ),
     }
 }
 

@@ -20,12 +20,12 @@ const USAGE: u8 = 1;
 
 fn main(rt: HostRuntime) -> ExitCode {
     match words(&rt) {
-        Ok(words) => ExitCode::from(status_code(run(&rt, &words))),
+        Ok(words) => ExitCode::from(status_code(&run(&rt, &words))),
         Err(error) if error.kind() == ErrorKind::InvalidData => {
             let _ = rt.eprintln("usage");
             ExitCode::from(USAGE)
         }
-        Err(_) => ExitCode::from(status_code(Status::NoMemory)),
+        Err(_) => ExitCode::from(status_code(&Status::NoMemory)),
     }
 }
 

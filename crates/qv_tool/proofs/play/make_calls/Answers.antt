@@ -1,6 +1,7 @@
 use Rattle.std.proofs.Common.{refl, ◌∙◌}
 use Rattle.vm_core.specs.Module.{code_of, state_of}
 use Rattle.qv_tool.proofs.Calling.{goes_on_at, none_returning, seen_at, stops_at}
+use Rattle.qv_tool.proofs.Quieting.{all_stay}
 use Rattle.qv_tool.proofs.play.make_calls.Goals as goal
 
 pub loop-args-init : goal.loop-args-init
@@ -21,11 +22,7 @@ returns-in_default g c =
     record {
       stop = stops_at (code_of c.args.machine.now) (g.H.Host.table c.args.host.now) c.args.steps c.args.calls.now c.loop-args.args-index _ _ _ (state_of c.args.machine.now).memory (state_of c.loop-args.machine).memory c.loop-args.last c.run.result _ _ _ _
           c.loop-args-test.true c.loop-args.invariant.so_far (c.start.ensures.code ∙ c.loop-args.invariant.code) c.loop-args.invariant.table c.start.ensures.state c.run.ensures.ran c.in_default.not-Returned;
-      out_quiet = seen.written ∙ c.loop-args.invariant.written;
-      host_asked = seen.asked ∙ c.loop-args.invariant.asked;
-      host_replied = seen.replied ∙ c.loop-args.invariant.replied;
-      host_table = c.run.ensures.table ∙ c.loop-args.invariant.table;
-      host_kept = c.run.ensures.kept ∙ c.loop-args.invariant.kept;
+      quiet = all_stay (seen.written ∙ c.loop-args.invariant.written) (seen.asked ∙ c.loop-args.invariant.asked) (seen.replied ∙ c.loop-args.invariant.replied) (c.run.ensures.table ∙ c.loop-args.invariant.table) (c.run.ensures.kept ∙ c.loop-args.invariant.kept);
     }
 
 pub loop-args-preserved : goal.loop-args-preserved

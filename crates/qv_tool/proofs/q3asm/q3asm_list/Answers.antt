@@ -1,21 +1,23 @@
-use Rattle.std.proofs.Common.{◌≡◌, ◌∙◌, Some, Ok, map, string_bytes, sym, ap, subst}
+use Rattle.std.proofs.Common.{◌≡◌, ◌∙◌, Ok, map, string_bytes, sym, ap, subst}
 use Rattle.qv_tool.specs.declared.list.Listed.{Listed}
 use Rattle.qv_tool.specs.Names.{names_in}
 use Rattle.qv_tool.specs.Verdict.{of_list, of_task}
 use Rattle.qv_tool.specs.Work.{IsListed}
-use Rattle.qv_tool.proofs.Linking.{list_goes, list_works}
-use Rattle.qv_tool.proofs.Working.{if_told, needs_list, unread_works}
+use Rattle.qv_tool.proofs.Causing.{served_by}
+use Rattle.qv_tool.proofs.Linking.{list_asked, list_goes}
+use Rattle.qv_tool.proofs.Worked.{listed_works, unread_works}
+use Rattle.qv_tool.proofs.Working.{if_told, needs_list}
 use Rattle.qv_tool.proofs.q3asm.q3asm_list.Goals as goal
 
-pub returns-in-Err-clause-works : goal.returns-in-Err-clause-works
-returns-in-Err-clause-works g c = λ table command asked.
-    unread_works table (Some command) c.args.list.now (λ held bytes. of_list held c.args.image.now c.args.list.now (names_in bytes)) _ _ _ _ c.in-Err.fault c.unread.result
-    (needs_list command c.args.image.now c.args.list.now _ asked) (if_told _ (λ held. ap (of_task held) asked)) c.in-Err.ensures.told c.in-Err.ensures.named c.unread.ensures
+pub returns-in-Err : goal.returns-in-Err
+returns-in-Err g c = λ table command asked.
+    unread_works table command _ _ c.args.list.now (λ held bytes. of_list held c.args.image.now c.args.list.now (names_in bytes)) c.in-Err.fault c.unread.result (served_by command _ asked)
+    (needs_list command c.args.image.now c.args.list.now _ asked) (if_told _ (λ held. ap (of_task held) asked)) c.in-Err.ensures.told c.in-Err.ensures.named c.in-Err.ensures.cause c.unread.ensures
 
-pub returns-in-Names-clause-works : goal.returns-in-Names-clause-works
-returns-in-Names-clause-works g c = λ table command asked.
+pub returns-in-Names : goal.returns-in-Names
+returns-in-Names g c = λ table command asked.
     let L : Listed → Type 0 = λ l. IsListed (names_in c.deref.result.now) l in
     let listed : names_in c.deref.result.now ≡ Ok (map string_bytes c.in-Names.names.items) = subst L c.in-Names.is c.in_ok-names.ensures in
     let names : names_in c.in-Ok.bytes.items ≡ Ok (map string_bytes c.deref-in-Names.result.now) = ap names_in (sym c.deref.ensures.value) ∙ listed ∙ ap (λ ns. Ok (map string_bytes ns)) (sym c.deref-in-Names.ensures.value) in
-    list_works table command c.args.image.now c.args.list.now asked c.in-Ok.bytes _ _ _ _ (map string_bytes c.deref-in-Names.result.now) c.q3asm.result
-    (list_goes table command c.args.image.now c.args.list.now asked c.in-Ok.bytes _ _ c.in-Ok.ensures.told) c.in-Ok.ensures.told names (c.q3asm.ensures.works table command)
+    listed_works table command _ _ c.args.image.now c.args.list.now asked c.in-Ok.bytes _ c.q3asm.result c.in-Ok.ensures.told c.in-Ok.ensures.later c.in-Ok.ensures.writes_stay
+    (c.q3asm.ensures table command (served_by command _ asked) (list_asked table command c.args.image.now c.args.list.now asked c.in-Ok.bytes _ _ (map string_bytes c.deref-in-Names.result.now) (list_goes table command c.args.image.now c.args.list.now asked c.in-Ok.bytes _ _ c.in-Ok.ensures.told) c.in-Ok.ensures.told names))

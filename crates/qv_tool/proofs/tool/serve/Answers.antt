@@ -1,11 +1,28 @@
 use Rattle.std.proofs.Common.{rules, ◌≡◌, Some, map, string_bytes}
-use Rattle.qv_tool.specs.Task.{Assemble, task_of}
-use Rattle.qv_tool.proofs.Linking.{files_work}
+use Rattle.qv_tool.specs.Task.{Compile, Assemble, AssembleList, Disassemble, task_of}
+use Rattle.qv_tool.proofs.Causing.{served_by}
+use Rattle.qv_tool.proofs.Linking.{files_ask}
+use Rattle.qv_tool.proofs.Working.{if_told}
 use Rattle.qv_words.specs.Shown.{command_shown}
 use Rattle.qv_tool.proofs.tool.serve.Goals as goal
+
+pub returns-in-Some-clause-works : goal.returns-in-Some-clause-works
+returns-in-Some-clause-works g c =
+    let asked : task_of (command_shown c.args.command.now) ≡ Some (Compile c.deref-in-Qcc-3.result.now c.in-Some.unit.now) = search rules in
+    c.qcc.ensures (g.H.Host.table c.args.host.now) (command_shown c.args.command.now) asked
 
 pub returns-in-Q3asm-default-default-None-clause-works : goal.returns-in-Q3asm-default-default-None-clause-works
 returns-in-Q3asm-default-default-None-clause-works g c =
     let asked : task_of (command_shown c.args.command.now) ≡ Some (Assemble c.deref-in-Q3asm-default-default-None.result.now (map string_bytes c.deref-in-Q3asm-default-default-None-2.result.now)) = search rules in
-    files_work (g.H.Host.table c.args.host.now) (command_shown c.args.command.now) c.deref-in-Q3asm-default-default-None.result.now (map string_bytes c.deref-in-Q3asm-default-default-None-2.result.now) _ _ _ c.q3asm.result asked
-    (c.q3asm.ensures.works (g.H.Host.table c.args.host.now) (command_shown c.args.command.now))
+    c.q3asm.ensures (g.H.Host.table c.args.host.now) (command_shown c.args.command.now) (served_by (command_shown c.args.command.now) _ asked)
+    (if_told _ (λ held. files_ask (command_shown c.args.command.now) c.deref-in-Q3asm-default-default-None.result.now (map string_bytes c.deref-in-Q3asm-default-default-None-2.result.now) held asked))
+
+pub returns-in-Q3asm-default-default-Some-clause-works : goal.returns-in-Q3asm-default-default-Some-clause-works
+returns-in-Q3asm-default-default-Some-clause-works g c =
+    let asked : task_of (command_shown c.args.command.now) ≡ Some (AssembleList c.deref-in-Q3asm-default-default-Some.result.now c.deref-in-Q3asm-default-default-Some-2.result.now) = search rules in
+    c.q3asm_list.ensures (g.H.Host.table c.args.host.now) (command_shown c.args.command.now) asked
+
+pub returns-in-Qdis-clause-works : goal.returns-in-Qdis-clause-works
+returns-in-Qdis-clause-works g c =
+    let asked : task_of (command_shown c.args.command.now) ≡ Some (Disassemble c.deref-in-Qdis.result.now c.deref-in-Qdis-2.result.now) = search rules in
+    c.qdis.ensures (g.H.Host.table c.args.host.now) (command_shown c.args.command.now) asked

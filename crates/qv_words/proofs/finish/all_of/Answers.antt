@@ -1,7 +1,7 @@
-use Rattle.std.proofs.Common.{◌≡◌, ℕ, List, Option, Some, map, ap}
+use Rattle.std.proofs.Common.{◌≡◌, ℕ, List, Some, map, ap}
 use Rattle.std.specs.Prelude.{string_bytes, option_map}
 use Rattle.qv_words.specs.declared.verb.Verb.{Verb}
-use Rattle.qv_words.specs.Words.{Options, Command, Qall, steps_in, calls_in, all_of}
+use Rattle.qv_words.specs.Words.{Options, Qall, steps_in, calls_in, all_of}
 use Rattle.qv_words.specs.Shown.{define_shown, options_shown}
 use Rattle.qv_words.proofs.finish.all_of.Goals as goal
 

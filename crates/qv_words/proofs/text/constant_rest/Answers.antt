@@ -1,4 +1,4 @@
-use Rattle.std.proofs.Common.{sym, ◌∙◌}
+use Rattle.std.proofs.Common.{sym}
 use Rattle.qv_words.proofs.Unclosed.{unclosed_more}
 use Rattle.qv_words.proofs.text.constant_rest.Goals as goal
 
