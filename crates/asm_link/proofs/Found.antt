@@ -17,7 +17,7 @@ use Rattle.asm_place.specs.declared.address.Address.TheVariants.{Absolute}
 use Rattle.asm_link.specs.Definitions.{Definition, defined_at, definitions_from, entry_address, known, known_by, label_address, name_in, number, number_of_name, row_address, state_after}
 use Rattle.asm_link.specs.Faults.{is_other, redefined_by, undefined_value, when}
 use Rattle.asm_link.specs.Image.{code_at, word}
-use Rattle.asm_link.specs.Source.{Entry, SourceLine}
+use Rattle.asm_link.specs.Source.{SourceLine}
 use Rattle.asm_link.specs.State.{Before, start, step}
 use Rattle.asm_link.specs.Visits.{visits_from}
 use Rattle.asm_link.specs.declared.fault.AsmKind.TheVariants.{Redefined, UndefinedName}

@@ -1,6 +1,6 @@
 -- Rows of one instruction each.
-use Rattle.std.proofs.Common.{◌≡◌, ℕ, zero, suc, ◌+◌, ◌%◌, ◌^◌, ◌<◌, ◌≤◌, Bool, true, false, ◌&&◌, ◌||◌, List, [], ◌∷◌, ◌++◌, length, refl, sym, ap, ◌∙◌, arith, add-zero, length-append, mod-eq_of_lt}
-use Rattle.std.specs.Prelude.{Option, Some, None, is_none, map, nat_le, nat_lt, not, option_map, unwrap_or, ◌==◌}
+use Rattle.std.proofs.Common.{◌≡◌, ℕ, zero, suc, ◌+◌, ◌%◌, ◌^◌, ◌<◌, ◌≤◌, Bool, true, false, ◌&&◌, ◌||◌, List, [], ◌∷◌, length, refl, sym, ap, ◌∙◌, arith, add-zero, length-append, mod-eq_of_lt}
+use Rattle.std.specs.Prelude.{Option, Some, None, is_none, map, nat_le, nat_lt, not, option_map, unwrap_or}
 use Rattle.std.specs.List.{list_all}
 use Rattle.std.specs.Option.{option_or}
 use Rattle.std.proofs.lemmas.Bool.Decides.{nat_tests}
@@ -62,10 +62,10 @@ module _ (all : List SourceLine) (count file : ℕ) where
       code_bytes-code all 0 (row_line file 1 (One op e) ∷ []) s ∙ ap (λ n. s.code_bytes + length (code_bytes (record { op = op; operand = n } ∷ []))) operand in
       let well : (state_after start all).count ≡ count → of_line all file (One op e) s ≡ None =
       λ h.
-          ap (λ u. option_or u (when (is_branch op && is_past (state_after start all).count (value_of all file e)) BranchFar)) (value_defined all file e.name e.add v value)
-          ∙ ap (λ o. when (is_branch op && is_past (state_after start all).count o) BranchFar) value
-          ∙ ap (λ n. when (is_branch op && nat_le n v) BranchFar) h
-          ∙ ap (λ b. when b BranchFar) (not_far (is_branch op) count v stays) in
+      ap (λ u. option_or u (when (is_branch op && is_past (state_after start all).count (value_of all file e)) BranchFar)) (value_defined all file e.name e.add v value)
+      ∙ ap (λ o. when (is_branch op && is_past (state_after start all).count o) BranchFar) value
+      ∙ ap (λ n. when (is_branch op && nat_le n v) BranchFar) h
+      ∙ ap (λ b. when b BranchFar) (not_far (is_branch op) count v stays) in
       rows-come_as (code_row-comes all count file at s (One op e) refl is refl well (omega (arith, bytes, le))) (ap (λ n. record { op = op; operand = n } ∷ []) operand) refl refl
       (λ k. record s { count = s.count + 1; code_bytes = bytes k })
 
