@@ -1,7 +1,5 @@
 -- The text of an image is linked to the image's instructions, and that of an image that linking gave to this image.
 use Rattle.std.proofs.Common.{◌≡◌, List, ℕ, ◌∷◌, [], Ok, refl, ap, ◌∙◌}
-use Rattle.std.specs.Prelude.{flat_map}
-use Rattle.qv_ops.specs.Code.{word_bytes}
 use Rattle.qv_image.specs.Image.{Qvm, IsImage}
 use Rattle.asm_link.specs.Link.{linked}
 use Rattle.asm_link.proofs.Comes.{made-linked}

@@ -1,5 +1,5 @@
 -- The lines of an image are read as its rows.
-use Rattle.std.proofs.Common.{◌≡◌, ℕ, zero, suc, ◌-◌, ◌^◌, ◌<◌, Bool, true, false, ◌&&◌, List, [], ◌∷◌, ◌++◌, append-nil, drop, Some, None, Ok, refl, sym, ap, subst, ◌∙◌, arith}
+use Rattle.std.proofs.Common.{◌≡◌, ℕ, zero, suc, ◌-◌, ◌^◌, ◌<◌, Bool, true, false, List, [], ◌∷◌, ◌++◌, append-nil, drop, Some, None, Ok, refl, sym, ap, subst, ◌∙◌, arith}
 use Rattle.std.specs.Prelude.{codes, nat_lt, ◌==◌, if◌then◌else◌}
 use Rattle.std.specs.Option.{option_and_then}
 use Rattle.std.specs.Fmt.{decimal, signed_decimal}
@@ -14,9 +14,8 @@ use Rattle.qv_ops.specs.Code.{fits_width, is_encodable, word_in}
 use Rattle.qv_ops.specs.Table.{name_of_op, width_of_op, op_with_name}
 use Rattle.qv_image.specs.Image.{IsImage, Qvm}
 use Rattle.asm_line.specs.declared.line.AsmSegment.TheVariants.{Code, Data, Lit, Bss}
-use Rattle.asm_line.specs.Operand.{number_of}
 use Rattle.asm_line.specs.Read.{checked, end_of_line, number_that, raw_as, sole_operand, with_number, with_ok}
-use Rattle.asm_line.specs.Row.{constant, Into, LitByte, One, Skip}
+use Rattle.asm_line.specs.Row.{constant, Into, LitByte, One}
 use Rattle.asm_line.proofs.Numbers.{Writes, decimal_writes, signed_writes}
 use Rattle.asm_line.proofs.Spaced.{AreWords, is_word, spaced, tested_word}
 use Rattle.asm_line.proofs.Text.{both}
@@ -71,10 +70,10 @@ instr_read i h =
     let name : List ℕ = name_of_op i.op in
     let width : ℕ = width_of_op i.op in
     subst (λ (t : List ℕ). Reads (codes "op " ++ t) (instr_row i)) (operand_spaced name width i.operand) (
-      line-reads (codes "op") (name ∷ operand_words width i.operand) (instr_row i) (tested_word (codes "op") refl) (tested_word name (names i.op), are_words width i.operand h) (
-        ap (λ o. raw_as o name (operand_words width i.operand)) (named i.op)
-        ∙ operand_read i.op width i.operand h
-      )
+    line-reads (codes "op") (name ∷ operand_words width i.operand) (instr_row i) (tested_word (codes "op") refl) (tested_word name (names i.op), are_words width i.operand h) (
+    ap (λ o. raw_as o name (operand_words width i.operand)) (named i.op)
+    ∙ operand_read i.op width i.operand h
+    )
     )
 
 -- bytes and words
@@ -132,9 +131,9 @@ bss_read z image = (alone-reads (codes "bss") (Into Bss) refl refl, zeros_read (
 lines_read : (z : Qvm) → IsImage z → AllRead (lines_of_image z) (image_rows z)
 lines_read z image =
     all_read-append (code_lines z.code) (data_lines z.data_part ++ (lit_lines z.lit ++ bss_lines z.bss)) (code_rows z) (data_rows z ++ (lit_rows z ++ bss_rows z.bss)) (code_read z image) (
-      all_read-append (data_lines z.data_part) (lit_lines z.lit ++ bss_lines z.bss) (data_rows z) (lit_rows z ++ bss_rows z.bss) (data_read z image) (
-        all_read-append (lit_lines z.lit) (bss_lines z.bss) (lit_rows z) (bss_rows z.bss) (lit_read z image) (bss_read z image)
-      )
+    all_read-append (data_lines z.data_part) (lit_lines z.lit ++ bss_lines z.bss) (data_rows z) (lit_rows z ++ bss_rows z.bss) (data_read z image) (
+    all_read-append (lit_lines z.lit) (bss_lines z.bss) (lit_rows z) (bss_rows z.bss) (lit_read z image) (bss_read z image)
+    )
     )
 
 -- the text of an image is made of its rows

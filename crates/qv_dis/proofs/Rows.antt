@@ -1,5 +1,5 @@
 -- The rows of an image, and what they come to.
-use Rattle.std.proofs.Common.{◌≡◌, ℕ, ◌+◌, ◌-◌, ◌*◌, ◌^◌, ◌≤◌, Bool, true, false, nat_lt, List, [], ◌∷◌, ◌++◌, length, drop, append-nil, None, refl, sym, ap, ◌∙◌, arith, add-zero, zero-add, length-append}
+use Rattle.std.proofs.Common.{◌≡◌, ℕ, ◌+◌, ◌-◌, ◌*◌, ◌^◌, ◌≤◌, Bool, true, false, nat_lt, List, [], ◌∷◌, ◌++◌, length, drop, append-nil, None, refl, sym, ap, arith, add-zero, zero-add, length-append}
 use Rattle.std.specs.Prelude.{flat_map, map, if◌then◌else◌}
 use Rattle.std.proofs.lemmas.Bool.Decides.{nat_tests}
 use Rattle.qv_base.specs.declared.limits.TheConstants.{STACK_BYTES}
