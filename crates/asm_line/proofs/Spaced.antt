@@ -21,8 +21,8 @@ pub record IsWord (text : List ℕ) : Type 0 where
 abbrev pub is_word : List ℕ → Bool
 is_word text = nat_lt 0 (length text) && (list_all is_word_byte text && list_all is_line_byte text)
 
-pub word : (text : List ℕ) → is_word text ≡ true → IsWord text
-word text h =
+pub tested_word : (text : List ℕ) → is_word text ≡ true → IsWord text
+tested_word text h =
     let k = both_true (nat_lt 0 (length text)) (list_all is_word_byte text && list_all is_line_byte text) h in
     let j = both_true (list_all is_word_byte text) (list_all is_line_byte text) k.1 in
     record { some = grind (arith, nat_tests); bytes = j.0; one_line = j.1 }

@@ -17,7 +17,7 @@ use Rattle.asm_line.specs.Text.{lines_of, is_word_byte, text_of, words_of}
 use Rattle.asm_line.specs.Words.{meaning_of}
 use Rattle.asm_line.proofs.Numbers.{Writes}
 use Rattle.asm_line.proofs.Operands.{expression-name, pieces-plain}
-use Rattle.asm_line.proofs.Spaced.{AreWords, IsWord, is_line_byte, is_word, one_line-spaced, spaced, word, words_of-spaced}
+use Rattle.asm_line.proofs.Spaced.{AreWords, IsWord, is_line_byte, is_word, one_line-spaced, spaced, tested_word, words_of-spaced}
 use Rattle.asm_line.proofs.Text.{both, both_true, lines_of-line, lines_of-nil}
 
 -- names
@@ -83,11 +83,11 @@ line-reads w ws row is are e = record { one_line = one_line-spaced w ws is are; 
 
 -- one word
 pub alone-reads : (w : List ℕ) (row : Row) → is_word w ≡ true → read_row (w ∷ []) ≡ Ok row → Reads w row
-alone-reads w row is e = line-reads w [] row (word w is) tt e
+alone-reads w row is e = line-reads w [] row (tested_word w is) tt e
 
 -- one word and an operand
 operand-reads : (w text : List ℕ) (row : Row) → is_word w ≡ true → IsWord text → read_row (w ∷ text ∷ []) ≡ Ok row → Reads (w ++ 32 ∷ text) row
-operand-reads w text row is operand e = line-reads w (text ∷ []) row (word w is) (operand, tt) e
+operand-reads w text row is operand e = line-reads w (text ∷ []) row (tested_word w is) (operand, tt) e
 
 -- an instruction with an expression
 pub instr-reads : (w : List ℕ) (op : Op) (text : List ℕ) (e : Expression) → is_word w ≡ true → meaning_of w ≡ Some (WithExpression op) → Says text e → Reads (w ++ 32 ∷ text) (One op e)
@@ -117,7 +117,7 @@ label-reads name h =
 -- a name and its number
 pub equation-reads : (name text : List ℕ) (n : ℕ) → is_name name ≡ true → Writes text n → Reads (codes "equ " ++ name ++ 32 ∷ text) (Equ name n)
 equation-reads name text n h w =
-    line-reads (codes "equ") (name ∷ text ∷ []) (Equ name n) (word (codes "equ") refl) (name-word name h, (w.is_word, tt)) (
+    line-reads (codes "equ") (name ∷ text ∷ []) (Equ name n) (tested_word (codes "equ") refl) (name-word name h, (w.is_word, tt)) (
     ap (λ o. checked (equation_row o (number_of text)) []) (name_of-name name h)
     ∙ ap (λ o. checked (equation_row (Some name) o) []) w.number
     )
@@ -131,11 +131,11 @@ sizes-row name locals args l a h wl wa =
 
 pub procedure-reads : (name locals args : List ℕ) (l a : ℕ) → is_name name ≡ true → Writes locals l → Writes args a → Reads (codes "proc " ++ name ++ 32 ∷ (locals ++ 32 ∷ args)) (Proc name l a)
 procedure-reads name locals args l a h wl wa =
-    line-reads (codes "proc") (name ∷ locals ∷ args ∷ []) (Proc name l a) (word (codes "proc") refl) (name-word name h, (wl.is_word, (wa.is_word, tt))) (sizes-row name locals args l a h wl wa)
+    line-reads (codes "proc") (name ∷ locals ∷ args ∷ []) (Proc name l a) (tested_word (codes "proc") refl) (name-word name h, (wl.is_word, (wa.is_word, tt))) (sizes-row name locals args l a h wl wa)
 
 pub end-reads : (name locals args : List ℕ) (l a : ℕ) → is_name name ≡ true → Writes locals l → Writes args a → Reads (codes "endproc " ++ name ++ 32 ∷ (locals ++ 32 ∷ args)) EndProc
 end-reads name locals args l a h wl wa =
-    line-reads (codes "endproc") (name ∷ locals ∷ args ∷ []) EndProc (word (codes "endproc") refl) (name-word name h, (wl.is_word, (wa.is_word, tt))) (ap (with_ok (λ row. EndProc)) (sizes-row name locals args l a h wl wa))
+    line-reads (codes "endproc") (name ∷ locals ∷ args ∷ []) EndProc (tested_word (codes "endproc") refl) (name-word name h, (wl.is_word, (wa.is_word, tt))) (ap (with_ok (λ row. EndProc)) (sizes-row name locals args l a h wl wa))
 
 -- a word of the data: an expression, or a number
 pub address-reads : (text : List ℕ) (e : Expression) → Says text e → Reads (codes "address " ++ text) (Word e)
@@ -143,12 +143,12 @@ address-reads text e says = operand-reads (codes "address") text (Word e) refl s
 
 pub word-reads : (text : List ℕ) (n : ℕ) → Writes text n → Reads (codes "byte 4 " ++ text) (Word (constant n))
 word-reads text n w =
-    line-reads (codes "byte") (codes "4" ∷ text ∷ []) (Word (constant n)) (word (codes "byte") refl) (word (codes "4") refl, (w.is_word, tt)) (ap (λ o. checked (bytes_row (Some 4) o) []) w.number)
+    line-reads (codes "byte") (codes "4" ∷ text ∷ []) (Word (constant n)) (tested_word (codes "byte") refl) (tested_word (codes "4") refl, (w.is_word, tt)) (ap (λ o. checked (bytes_row (Some 4) o) []) w.number)
 
 -- a byte of the literals
 pub byte-reads : (text : List ℕ) (n : ℕ) → n < 256 → Writes text n → Reads (codes "byte 1 " ++ text) (LitByte n)
 byte-reads text n lt w =
-    line-reads (codes "byte") (codes "1" ∷ text ∷ []) (LitByte n) (word (codes "byte") refl) (word (codes "1") refl, (w.is_word, tt)) (
+    line-reads (codes "byte") (codes "1" ∷ text ∷ []) (LitByte n) (tested_word (codes "byte") refl) (tested_word (codes "1") refl, (w.is_word, tt)) (
     ap (λ o. checked (bytes_row (Some 1) o) []) w.number
     ∙ ap (λ b. Ok (LitByte b)) (mod-eq_of_lt lt)
     )

@@ -1,9 +1,8 @@
 -- What lines come to that stand behind others.
-use Rattle.std.proofs.Common.{◌≡◌, ℕ, ◌+◌, ◌^◌, ◌<◌, ◌≤◌, Bool, true, false, List, [], ◌∷◌, ◌++◌, append-nil, length, Ok, refl, sym, ap, subst, ◌∙◌, arith, add-zero, zero-add, length-append}
+use Rattle.std.proofs.Common.{◌≡◌, ℕ, ◌+◌, ◌^◌, ◌<◌, ◌≤◌, Bool, List, [], ◌∷◌, ◌++◌, append-nil, length, Ok, refl, sym, ap, subst, ◌∙◌, arith, add-zero, zero-add, length-append}
 use Rattle.std.specs.Prelude.{Option, Some, None, flat_map, map, nat_lt, option_map, replicate, if◌then◌else◌}
 use Rattle.std.specs.Option.{option_or}
 use Rattle.std.proofs.lemmas.Bool.Decides.{nat_tests}
-use Rattle.std.proofs.lemmas.Grind.{flat_map-append}
 use Rattle.qv_ops.specs.declared.instr.Instr.{Instr}
 use Rattle.qv_image.specs.Image.{Qvm}
 use Rattle.asm_line.specs.Row.{Row, Nothing}
@@ -17,7 +16,6 @@ use Rattle.asm_link.specs.Link.{block_size, end_fault, end_kind, fault_in, first
 use Rattle.asm_link.specs.Source.{SourceLine, FileEnd}
 use Rattle.asm_link.specs.State.{Before, file_end, next_last, next_waits, row_addition, row_code, start, step, step_row}
 use Rattle.asm_link.specs.Visits.{Visit, visits, visits_from}
-use Rattle.asm_link.specs.declared.fault.AsmFault.{AsmFault}
 use Rattle.asm_link.specs.declared.fault.AsmKind.TheVariants.{CodeTooLarge}
 use Rattle.asm_line.proofs.Written.{MadeOf}
 use Rattle.asm_link.proofs.Counts.{count-code}

@@ -1,6 +1,6 @@
 -- What the lines before a place come to counts their instructions and bytes.
 use Rattle.std.proofs.Common.{◌≡◌, ℕ, suc, ap, ◌∙◌, ◌+◌, ◌%◌, ◌^◌, List, [], ◌∷◌, length, refl, arith, length-append}
-use Rattle.std.specs.Prelude.{Bool, Option, Some, None, true, false, flat_map, map, replicate, if◌then◌else◌}
+use Rattle.std.specs.Prelude.{Bool, Option, Some, None, true, false, flat_map, map, if◌then◌else◌}
 use Rattle.std.proofs.lemmas.List.{length-map, length-replicate}
 use Rattle.std.proofs.lemmas.Grind.{flat_map-append}
 use Rattle.qv_ops.specs.Code.{code_bytes, instr_bytes, operand_bytes}

@@ -1,10 +1,12 @@
 -- What is known of a name that one line defines, and no line before it.
-use Rattle.std.proofs.Common.{◌≡◌, ℕ, ◌+◌, ◌%◌, ◌^◌, ◌<◌, Bool, true, false, ◌&&◌, ◌||◌, List, [], ◌∷◌, ◌++◌, length, refl, sym, ap, ◌∙◌, arith, add-zero, zero-add, mod-eq_of_lt}
+use Rattle.std.proofs.Common.{◌≡◌, ℕ, ◌+◌, ◌%◌, ◌^◌, ◌<◌, Bool, true, false, ◌&&◌, ◌||◌, List, [], ◌∷◌, ◌++◌, append_assoc, length, refl, sym, ap, ◌∙◌, arith, add-zero, zero-add, length-append, mod-eq_of_lt}
 use Rattle.std.specs.Prelude.{Option, Some, None, find, flat_map, is_none, not, option_map, unwrap_or, ◌==◌, if◌then◌else◌}
 use Rattle.std.specs.List.{list_any}
 use Rattle.std.specs.Str.{bytes_eq}
 use Rattle.std.proofs.lemmas.Bool.Decides.{nat_tests}
+use Rattle.std.proofs.lemmas.List.Folds.{list_any-append}
 use Rattle.std.proofs.lemmas.Slice.Eq.{bytes_eq-Decides}
+use Rattle.qv_base.specs.Place.{capped}
 use Rattle.asm_line.specs.Row.{Row, Label, Proc, address}
 use Rattle.asm_line.specs.Stands.{name_defined}
 use Rattle.asm_line.specs.declared.line.AsmSegment.{AsmSegment}
@@ -15,13 +17,15 @@ use Rattle.asm_place.specs.declared.address.Address.TheVariants.{Absolute}
 use Rattle.asm_link.specs.Definitions.{Definition, defined_at, definitions_from, entry_address, known, known_by, label_address, name_in, number, number_of_name, row_address, state_after}
 use Rattle.asm_link.specs.Faults.{is_other, redefined_by, undefined_value, when}
 use Rattle.asm_link.specs.Image.{code_at, word}
-use Rattle.asm_link.specs.Source.{Entry, SourceLine}
+use Rattle.asm_link.specs.Source.{SourceLine}
 use Rattle.asm_link.specs.State.{Before, start, step}
 use Rattle.asm_link.specs.Visits.{visits_from}
 use Rattle.asm_link.specs.declared.fault.AsmKind.TheVariants.{Redefined, UndefinedName}
 use Rattle.asm_link.specs.declared.known.Known.{Known}
+use Rattle.asm_link.proofs.CodeRows.{count-rows, rows_count}
 use Rattle.asm_link.proofs.Counts.{count-code}
-use Rattle.asm_link.proofs.Rows.{row_line, row_lines}
+use Rattle.asm_link.proofs.Joined.{state_after-append}
+use Rattle.asm_link.proofs.Rows.{length-row_lines, line_behind, row_line, row_lines, row_lines-append}
 
 -- whether a name of a file is the one that a line of another file defines, if it defines one
 abbrev pub is_defined : ℕ → List ℕ → ℕ → Option (List ℕ) → Bool
@@ -136,3 +140,51 @@ module _ (all : List SourceLine) (file : ℕ) (name : List ℕ) where
     where
       same : (n : ℕ) → (n == n) ≡ true
       same n = grind (arith, nat_tests)
+
+-- names of the rows of a file
+
+-- a row whose name stands for an instruction's number
+abbrev pub names_code : Row → Bool
+names_code (Proc name locals args) = true
+names_code (Label name) = true
+names_code row = false
+
+code_address : (row : Row) (s : Before) (ys : List SourceLine) → names_code row ≡ true → s.segment ≡ Code → row_address row s ys ≡ Absolute s.count
+code_address (Proc name locals args) s ys h is = refl
+code_address (Label name) s ys h is = code_label s.segment s ys is
+code_address row s ys h is = absurd (cc)
+
+-- lines, rows of a file, and lines behind them; a row has this name of a file, and nothing before it has
+module _ (xs : List SourceLine) (file number : ℕ) (rows : List Row) (row : Row) (more : List Row) (ys : List SourceLine) (from : ℕ) (name : List ℕ) where
+  abbrev whole : List SourceLine
+  whole = xs ++ (row_lines file number (rows ++ row ∷ more) ++ ys)
+
+  abbrev before : List SourceLine
+  before = xs ++ row_lines file number rows
+
+  abbrev behind : List SourceLine
+  behind = row_lines file (capped (line_behind number rows + 1)) more ++ ys
+
+  cut : whole ≡ before ++ row_line file (line_behind number rows) row ∷ behind
+  cut =
+      ap (λ ls. xs ++ (ls ++ ys)) (row_lines-append file rows (row ∷ more) number)
+      ∙ ap (λ ls. xs ++ ls) (append_assoc (row_lines file number rows) (row_lines file (line_behind number rows) (row ∷ more)) ys)
+      ∙ sym (append_assoc xs (row_lines file number rows) (row_line file (line_behind number rows) row ∷ behind))
+
+  -- it is found there: a procedure, or a label in code, stands for the number of the instructions before it
+  pub row-found : list_any (defines from name) xs ≡ false → list_any (row_defines from name file) rows ≡ false → row_defines from name file row ≡ true → names_code row ≡ true
+      → (state_after (state_after start xs) (row_lines file number rows)).segment ≡ Code
+      → known whole from name ≡ Some (record { at = length xs + length rows; address = Absolute ((state_after start xs).count + rows_count rows) })
+  row-found none fresh is code in_code =
+      let state : state_after start before ≡ state_after (state_after start xs) (row_lines file number rows) = state_after-append xs (row_lines file number rows) start in
+      let absent : list_any (defines from name) before ≡ false =
+      list_any-append (defines from name) xs (row_lines file number rows)
+      ∙ ap (λ b. b || list_any (defines from name) (row_lines file number rows)) none
+      ∙ defines-rows from name file rows number
+      ∙ fresh in
+      let place : length before ≡ length xs + length rows = omega (arith, length-append xs (row_lines file number rows), length-row_lines file rows number) in
+      ap (λ ls. known ls from name) cut
+      ∙ known-found from name before (row_line file (line_behind number rows) row) behind absent is
+      ∙ ap (λ a. Some (record { at = length before; address = a })) (code_address row (state_after start before) behind code (ap (λ (s : Before). s.segment) state ∙ in_code))
+      ∙ ap (λ n. Some (record { at = length before; address = Absolute n })) (ap (λ (s : Before). s.count) state ∙ count-rows file rows number (state_after start xs))
+      ∙ ap (λ n. Some (record { at = n; address = Absolute ((state_after start xs).count + rows_count rows) })) place

@@ -1,25 +1,28 @@
--- Rows that are one instruction with a number.
-use Rattle.std.proofs.Common.{◌≡◌, ℕ, zero, suc, ◌+◌, ◌%◌, ◌^◌, ◌<◌, ◌≤◌, Bool, true, false, ◌&&◌, ◌||◌, List, [], ◌∷◌, ◌++◌, length, refl, sym, ap, ◌∙◌, arith, add-zero, length-append, mod-eq_of_lt}
-use Rattle.std.specs.Prelude.{Option, None, map, nat_le, nat_lt, not, ◌==◌}
+-- Rows of one instruction each.
+use Rattle.std.proofs.Common.{◌≡◌, ℕ, zero, suc, ◌+◌, ◌%◌, ◌^◌, ◌<◌, ◌≤◌, Bool, true, false, ◌&&◌, ◌||◌, List, [], ◌∷◌, length, refl, sym, ap, ◌∙◌, arith, add-zero, length-append, mod-eq_of_lt}
+use Rattle.std.specs.Prelude.{Option, Some, None, is_none, map, nat_le, nat_lt, not, option_map, unwrap_or}
 use Rattle.std.specs.List.{list_all}
+use Rattle.std.specs.Option.{option_or}
 use Rattle.std.proofs.lemmas.Bool.Decides.{nat_tests}
 use Rattle.qv_ops.specs.Code.{code_bytes, fits_width, instr_bytes, is_encodable, stays_within}
 use Rattle.qv_ops.specs.Table.{is_branch, width_of_op}
 use Rattle.qv_ops.specs.declared.instr.Instr.{Instr}
 use Rattle.qv_ops.specs.declared.op.Op.{Op}
 use Rattle.asm_line.specs.Row.{Expression, Row, constant, One}
-use Rattle.asm_line.specs.declared.line.AsmSegment.{AsmSegment}
-use Rattle.asm_line.specs.declared.line.AsmSegment.TheVariants.{Code, Data, Lit, Bss}
+use Rattle.asm_line.specs.declared.line.AsmSegment.TheVariants.{Code}
 use Rattle.asm_line.proofs.Text.{both_true}
-use Rattle.asm_link.specs.Definitions.{state_after}
-use Rattle.asm_link.specs.Faults.{of_line, when}
+use Rattle.asm_link.specs.Definitions.{number_of_name, state_after, value_at, value_of}
+use Rattle.asm_link.specs.Faults.{is_past, of_line, undefined_value, when}
+use Rattle.asm_link.specs.Image.{word}
 use Rattle.asm_link.specs.Source.{SourceLine}
-use Rattle.asm_link.specs.State.{Before, next_last, next_waits, start, step_row}
-use Rattle.asm_link.specs.declared.fault.AsmKind.TheVariants.{BranchFar}
-use Rattle.asm_link.proofs.Comes.{RowsCome, append_rows-come, none_rows-come, row-comes, row-well, rows-come_as}
+use Rattle.asm_link.specs.State.{Before, start}
+use Rattle.asm_link.specs.declared.fault.AsmKind.TheVariants.{BranchFar, UndefinedName}
+use Rattle.asm_link.proofs.CodeRows.{behind_row, code_row-comes}
+use Rattle.asm_link.proofs.Comes.{RowsCome, append_rows-come, none_rows-come, rows-come_as}
 use Rattle.asm_link.proofs.Counts.{code_bytes-code}
 use Rattle.asm_link.proofs.Rows.{row_line}
 
+-- an instruction with its number
 abbrev pub instr_row : Instr → Row
 instr_row i = One i.op (constant i.operand)
 
@@ -27,19 +30,19 @@ instr_row i = One i.op (constant i.operand)
 abbrev pub behind_code : List Instr → Before → Before
 behind_code is s = record s { count = s.count + length is; code_bytes = s.code_bytes + length (code_bytes is) }
 
--- an instruction leaves labels alone
+-- an expression with a value has no undefined name
 
-one_last : (g : AsmSegment) (last : Option (List ℕ)) (op : Op) (e : Expression) → next_last g last (One op e) ≡ last
-one_last Code last op e = refl
-one_last Data last op e = refl
-one_last Lit last op e = refl
-one_last Bss last op e = refl
+some_number : (add v : ℕ) (o : Option ℕ) → option_map (λ n. (n + add) % 2 ^ 32) o ≡ Some v → is_none o ≡ false
+some_number add v None h = absurd (cc)
+some_number add v (Some n) h = refl
 
-one_waits : (g : AsmSegment) (waits : Bool) (op : Op) (e : Expression) → next_waits g waits (One op e) ≡ waits
-one_waits Code waits op e = refl
-one_waits Data waits op e = refl
-one_waits Lit waits op e = refl
-one_waits Bss waits op e = refl
+value_defined : (all : List SourceLine) (file : ℕ) (name : Option (List ℕ)) (add v : ℕ) → value_at all file name add ≡ Some v → undefined_value all file name ≡ None
+value_defined all file None add v h = refl
+value_defined all file (Some name) add v h = ap (λ b. when b (UndefinedName name)) (some_number add v (number_of_name all file name) h)
+
+not_far : (b : Bool) (count v : ℕ) → (not b || nat_lt v count) ≡ true → (b && nat_le count v) ≡ false
+not_far true count v h = grind (arith, nat_tests)
+not_far false count v h = refl
 
 -- an operand that fits its width is a word
 word_fits : (width v : ℕ) → fits_width width v ≡ true → v < 2 ^ 32
@@ -47,42 +50,36 @@ word_fits zero v h = grind (arith, nat_tests)
 word_fits (suc zero) v h = grind (arith, nat_tests)
 word_fits (suc (suc width)) v h = grind (arith, nat_tests)
 
-not_far : (b : Bool) (count v : ℕ) → (not b || nat_lt v count) ≡ true → (b && nat_le count v) ≡ false
-not_far true count v h = grind (arith, nat_tests)
-not_far false count v h = refl
-
 module _ (all : List SourceLine) (count file : ℕ) where
-  one_step : (s : Before) (i : Instr) → i.operand % 2 ^ 32 ≡ i.operand → step_row (instr_row i) s ≡ behind_code (i ∷ []) s
-  one_step s i word =
-      let bytes : (step_row (instr_row i) s).code_bytes ≡ s.code_bytes + length (code_bytes (i ∷ [])) =
-      code_bytes-code all 0 (row_line file 1 (instr_row i) ∷ []) s ∙ ap (λ v. s.code_bytes + length (code_bytes (record { op = i.op; operand = v } ∷ []))) word in
-      λ k. record s {
-        last = one_last s.segment s.last i.op (constant i.operand) k;
-        waits = one_waits s.segment s.waits i.op (constant i.operand) k;
-        count = s.count + 1;
-        code_bytes = bytes k;
-        data_size = add-zero s.data_size k;
-        lit_size = add-zero s.lit_size k;
-        bss_size = add-zero s.bss_size k;
-      }
+  -- an instruction with an expression whose value is a word; a branch goes to one of all instructions
+  pub one-comes : (at : ℕ) (s : Before) (op : Op) (e : Expression) (v : ℕ) → s.segment ≡ Code → value_of all file e ≡ Some v → v < 2 ^ 32 → stays_within count (record { op = op; operand = v }) ≡ true
+      → s.code_bytes + length (code_bytes (record { op = op; operand = v } ∷ [])) ≤ 2 ^ 27
+      → RowsCome all count file at s (One op e ∷ []) (record { op = op; operand = v } ∷ []) [] [] (behind_code (record { op = op; operand = v } ∷ []) s)
+  one-comes at s op e v is value lt stays le =
+      let i : Instr = record { op = op; operand = v } in
+      let operand : word all file e % 2 ^ 32 ≡ v = ap (λ o. unwrap_or o 0 % 2 ^ 32) value ∙ mod-eq_of_lt lt in
+      let bytes : (behind_row (One op e) s).code_bytes ≡ s.code_bytes + length (code_bytes (i ∷ [])) =
+      code_bytes-code all 0 (row_line file 1 (One op e) ∷ []) s ∙ ap (λ n. s.code_bytes + length (code_bytes (record { op = op; operand = n } ∷ []))) operand in
+      let well : (state_after start all).count ≡ count → of_line all file (One op e) s ≡ None =
+      λ h.
+      ap (λ u. option_or u (when (is_branch op && is_past (state_after start all).count (value_of all file e)) BranchFar)) (value_defined all file e.name e.add v value)
+      ∙ ap (λ o. when (is_branch op && is_past (state_after start all).count o) BranchFar) value
+      ∙ ap (λ n. when (is_branch op && nat_le n v) BranchFar) h
+      ∙ ap (λ b. when b BranchFar) (not_far (is_branch op) count v stays) in
+      rows-come_as (code_row-comes all count file at s (One op e) refl is refl well (omega (arith, bytes, le))) (ap (λ n. record { op = op; operand = n } ∷ []) operand) refl refl
+      (λ k. record s { count = s.count + 1; code_bytes = bytes k })
 
-  -- an instruction that is encodable and branches, if it does, to one of all instructions
-  pub instr-comes : (at : ℕ) (s : Before) (i : Instr) → is_encodable i ≡ true → stays_within count i ≡ true → s.code_bytes + length (code_bytes (i ∷ [])) ≤ 2 ^ 27
+  -- an instruction with a number
+  pub instr-comes : (at : ℕ) (s : Before) (i : Instr) → s.segment ≡ Code → is_encodable i ≡ true → stays_within count i ≡ true → s.code_bytes + length (code_bytes (i ∷ [])) ≤ 2 ^ 27
       → RowsCome all count file at s (instr_row i ∷ []) (i ∷ []) [] [] (behind_code (i ∷ []) s)
-  instr-comes at s i fits stays le =
-      let word : i.operand % 2 ^ 32 ≡ i.operand = mod-eq_of_lt (word_fits (width_of_op i.op) i.operand fits) in
-      let step : step_row (instr_row i) s ≡ behind_code (i ∷ []) s = one_step s i word in
-      let small : (step_row (instr_row i) s).code_bytes ≤ 2 ^ 27 = omega (arith, ap (λ (t : Before). t.code_bytes) step, le) in
-      let well : (state_after start all).count ≡ count → of_line all file (instr_row i) s ≡ None =
-      λ h. ap (λ n. when (is_branch i.op && nat_le n i.operand) BranchFar) h ∙ ap (λ b. when b BranchFar) (not_far (is_branch i.op) count i.operand stays) in
-      rows-come_as (row-comes all count file at s (instr_row i) (λ h. row-well all file at s (instr_row i) refl (well h) small)) (ap (λ v. record { op = i.op; operand = v } ∷ []) word) refl refl step
+  instr-comes at s i is fits stays le = one-comes at s i.op (constant i.operand) i.operand is refl (word_fits (width_of_op i.op) i.operand fits) stays le
 
   -- such instructions, one on each line
-  pub instrs-come : (at : ℕ) (s : Before) (is : List Instr) → list_all is_encodable is ≡ true → list_all (stays_within count) is ≡ true → s.code_bytes + length (code_bytes is) ≤ 2 ^ 27
+  pub instrs-come : (at : ℕ) (s : Before) (is : List Instr) → s.segment ≡ Code → list_all is_encodable is ≡ true → list_all (stays_within count) is ≡ true → s.code_bytes + length (code_bytes is) ≤ 2 ^ 27
       → RowsCome all count file at s (map instr_row is) is [] [] (behind_code is s)
-  instrs-come at s [] fits stays le =
+  instrs-come at s [] here fits stays le =
       rows-come_as (none_rows-come all count file at s) refl refl refl (sym (λ k. record s { count = add-zero s.count k; code_bytes = add-zero s.code_bytes k }))
-  instrs-come at s (i ∷ is) fits stays le =
+  instrs-come at s (i ∷ is) here fits stays le =
       let fit = both_true (is_encodable i) (list_all is_encodable is) fits in
       let stay = both_true (stays_within count i) (list_all (stays_within count) is) stays in
       let sizes : length (code_bytes (i ∷ is)) ≡ length (code_bytes (i ∷ [])) + length (code_bytes is) =
@@ -90,5 +87,5 @@ module _ (all : List SourceLine) (count file : ℕ) where
       let counts : s.count + 1 + length is ≡ s.count + length (i ∷ is) = omega arith in
       let bytes : s.code_bytes + length (code_bytes (i ∷ [])) + length (code_bytes is) ≡ s.code_bytes + length (code_bytes (i ∷ is)) = omega (arith, sizes) in
       rows-come_as
-      (append_rows-come (instr-comes at s i fit.0 stay.0 (omega (arith, sizes, le))) (instrs-come (at + 1) (behind_code (i ∷ []) s) is fit.1 stay.1 (omega (arith, bytes, le))))
+      (append_rows-come (instr-comes at s i here fit.0 stay.0 (omega (arith, sizes, le))) (instrs-come (at + 1) (behind_code (i ∷ []) s) is here fit.1 stay.1 (omega (arith, bytes, le))))
       refl refl refl (λ k. record s { count = counts k; code_bytes = bytes k })

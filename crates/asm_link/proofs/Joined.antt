@@ -19,8 +19,8 @@ visits_from-append [] ys at s = sym (ap (λ n. visits_from n s ys) (add-zero at)
 visits_from-append (x ∷ xs) ys at s =
     let same : at + 1 + length xs ≡ at + length (x ∷ xs) = omega arith in
     ap (λ vs. record { at = at; before = s; line = x } ∷ vs) (
-      visits_from-append xs ys (at + 1) (step s x)
-      ∙ ap (λ n. visits_from (at + 1) (step s x) xs ++ visits_from n (state_after (step s x) xs) ys) same
+    visits_from-append xs ys (at + 1) (step s x)
+    ∙ ap (λ n. visits_from (at + 1) (step s x) xs ++ visits_from n (state_after (step s x) xs) ys) same
     )
 
 -- the lists of what each line gives are joined

@@ -7,4 +7,5 @@ pub mod Joined
 pub mod Rows
 pub mod Comes
 pub mod Found
+pub mod CodeRows
 pub mod Instrs

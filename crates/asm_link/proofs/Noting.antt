@@ -15,7 +15,6 @@ use Rattle.asm_place.specs.declared.symbols.SymbolFault.{SymbolFault}
 use Rattle.asm_place.specs.declared.symbols.SymbolFault.TheVariants.{Redefined}
 use Rattle.asm_link.specs.Held.{held_at, is_fixed, is_settled, noted_at, note_settled, settle}
 use Rattle.asm_link.specs.Lookup.{numbered}
-use Rattle.asm_link.specs.declared.known.Known.{Known}
 use Rattle.asm_link.specs.declared.noted.Held.{Held}
 use Rattle.asm_link.specs.declared.noted.Held.TheVariants.{Settled, Waiting}
 use Rattle.asm_link.specs.declared.noted.Noted.{Noted}

@@ -1,5 +1,5 @@
 -- The rows of files, and texts that are made of rows.
-use Rattle.std.proofs.Common.{◌≡◌, ℕ, ◌+◌, List, [], ◌∷◌, ◌++◌, length, refl, sym, ap, ◌∙◌, arith}
+use Rattle.std.proofs.Common.{◌≡◌, ℕ, ◌+◌, List, [], ◌∷◌, ◌++◌, length, refl, ap, ◌∙◌, arith}
 use Rattle.qv_base.specs.Place.{capped}
 use Rattle.asm_line.specs.Row.{Row, Nothing}
 use Rattle.asm_line.specs.Read.{read_row}
@@ -7,7 +7,7 @@ use Rattle.asm_line.specs.Text.{lines_of, words_of}
 use Rattle.asm_line.proofs.Text.{words_of-nil}
 use Rattle.asm_line.proofs.Written.{AllRead, MadeOf, lines_of-lines}
 use Rattle.asm_link.specs.Link.{linked, linked_lines}
-use Rattle.asm_link.specs.Source.{SourceLine, Read, FileEnd, entry_of_row, file_source, source_from, source_of}
+use Rattle.asm_link.specs.Source.{SourceLine, Read, FileEnd, entry_of_row, file_source, source_from}
 
 -- a row on a line of a file
 abbrev pub row_line : ℕ → ℕ → Row → SourceLine

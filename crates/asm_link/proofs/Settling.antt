@@ -1,14 +1,14 @@
 -- A line that settles no label changes neither the segment nor the sizes.
-use Rattle.std.proofs.Common.{◌≡◌, ℕ, false, ◌+◌, List, ◌∷◌, Option, Some, None, refl, sym, ap, ◌∙◌, arith}
+use Rattle.std.proofs.Common.{◌≡◌, ℕ, false, List, ◌∷◌, Some, None, refl, ap, ◌∙◌, arith}
 use Rattle.std.specs.Prelude.{unwrap_or}
-use Rattle.asm_line.specs.Row.{Row, Nothing, Proc, EndProc, One, Call, Arg, Ret, LocalAt, ParamAt, Into, Label, Equ, Word, LitByte, Skip, Align}
+use Rattle.asm_line.specs.Row.{Row, Proc, Into, Label, Equ, Word, LitByte, Skip, Align}
 use Rattle.asm_line.specs.Stands.{addition_of, settles}
 use Rattle.asm_line.specs.declared.line.AsmSegment.{AsmSegment}
 use Rattle.asm_line.specs.declared.line.AsmSegment.TheVariants.{Code, Data, Lit, Bss}
 use Rattle.asm_place.specs.declared.address.Address.TheVariants.{Relative}
 use Rattle.asm_link.specs.Definitions.{end_of, label_address, name_in, settled_in, settles_entry}
 use Rattle.asm_link.specs.Source.{Entry, SourceLine, Read, Unread, FileEnd}
-use Rattle.asm_link.specs.State.{Before, added_to, is_segment, next_segment, size_in, row_addition, step, step_entry, step_row}
+use Rattle.asm_link.specs.State.{Before, added_to, is_segment, next_segment, size_in, row_addition, step_entry, step_row}
 
 adds_nothing : (g : AsmSegment) (n : ℕ) (row : Row) → settles g row ≡ None → addition_of g n row ≡ None
 adds_nothing g n (Word e) h = absurd (cc)

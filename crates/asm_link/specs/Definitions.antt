@@ -1,5 +1,5 @@
 -- Names and what they stand for, over the list of all lines.
-use Rattle.std.specs.Prelude.{ℕ, ◌+◌, ◌%◌, ◌^◌, Bool, List, [], ◌∷◌, ◌++◌, Option, Some, None, find, option_map, unwrap_or}
+use Rattle.std.specs.Prelude.{ℕ, ◌+◌, ◌%◌, ◌^◌, List, [], ◌∷◌, ◌++◌, Option, Some, None, find, option_map, unwrap_or}
 use Rattle.asm_line.specs.Row.{Expression, Row, Equ, Label}
 use Rattle.asm_line.specs.Size.{rounded}
 use Rattle.asm_line.specs.Stands.{name_defined, settles}

@@ -1,5 +1,5 @@
 -- The faults of a line, in their order.
-use Rattle.std.specs.Prelude.{ℕ, ◌+◌, ◌*◌, ◌^◌, ◌==◌, nat_lt, nat_le, Bool, true, false, ◌&&◌, not, List, Option, Some, None, is_none, if◌then◌else◌}
+use Rattle.std.specs.Prelude.{ℕ, ◌+◌, ◌*◌, ◌^◌, ◌==◌, nat_lt, nat_le, Bool, false, ◌&&◌, not, List, Option, Some, None, is_none, if◌then◌else◌}
 use Rattle.std.specs.Option.{option_or}
 use Rattle.qv_ops.specs.Table.{is_branch}
 use Rattle.asm_line.specs.Row.{Row, Proc, EndProc, One, Arg, Ret, LocalAt, ParamAt, Word, LitByte, Skip, Align}

@@ -1,5 +1,5 @@
 -- The lines that a reader has left.
-use Rattle.std.specs.Prelude.{ℕ, ◌+◌, List, [], ◌∷◌}
+use Rattle.std.specs.Prelude.{◌+◌, List, [], ◌∷◌}
 use Rattle.asm_line.specs.Text.{lines_of}
 use Rattle.asm_link.specs.Shown.{texts_of}
 use Rattle.asm_link.specs.Source.{SourceLine, FileEnd, file_source, source_from}

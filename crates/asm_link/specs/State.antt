@@ -1,6 +1,6 @@
 -- What the lines before a place come to.
-use Rattle.std.specs.Prelude.{List, [], Bool, ℕ, ◌+◌, ◌*◌, length, true, false, Option, Some, None, if◌then◌else◌}
-use Rattle.asm_line.specs.Row.{Row, Nothing, Proc, EndProc, Call, Arg, Into, Label, Word, LitByte, Skip, Align}
+use Rattle.std.specs.Prelude.{List, Bool, ℕ, ◌+◌, length, true, false, Option, Some, None, if◌then◌else◌}
+use Rattle.asm_line.specs.Row.{Row, Proc, EndProc, Call, Arg, Into, Label, Word, LitByte, Skip, Align}
 use Rattle.asm_line.specs.Stands.{SymbolicInstr, Addition, addition_of, addition_size, code_of, code_size, sizes_of}
 use Rattle.asm_line.specs.declared.frame.FrameSizes.{FrameSizes}
 use Rattle.asm_line.specs.declared.line.AsmSegment.{AsmSegment}

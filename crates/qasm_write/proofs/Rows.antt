@@ -45,10 +45,10 @@ module _ (all : List SourceLine) (count : ℕ) where
   inner_comes : (at c b : ℕ) (l : UnitLine) → is_inner l ≡ true → LineComes at c b l
   inner_comes at c b Open h = absurd (cc)
   inner_comes at c b Parameter h = λ le. row-comes all count 0 at (inside c b) (row_of Parameter) (λ e. row-well all 0 at (inside c b) (row_of Parameter) refl refl le)
-  inner_comes at c b Load h = λ le. instr-comes all count 0 at (inside c b) (instr Load4 0) refl refl le
-  inner_comes at c b (Constant n) h = λ le. instr-comes all count 0 at (inside c b) (instr Const n) h refl le
-  inner_comes at c b Add h = λ le. instr-comes all count 0 at (inside c b) (instr AddOp 0) refl refl le
-  inner_comes at c b Subtract h = λ le. instr-comes all count 0 at (inside c b) (instr Sub 0) refl refl le
+  inner_comes at c b Load h = λ le. instr-comes all count 0 at (inside c b) (instr Load4 0) refl refl refl le
+  inner_comes at c b (Constant n) h = λ le. instr-comes all count 0 at (inside c b) (instr Const n) refl h refl le
+  inner_comes at c b Add h = λ le. instr-comes all count 0 at (inside c b) (instr AddOp 0) refl refl refl le
+  inner_comes at c b Subtract h = λ le. instr-comes all count 0 at (inside c b) (instr Sub 0) refl refl refl le
   inner_comes at c b Return h = λ le. row-comes all count 0 at (inside c b) (row_of Return) (λ e. row-well all 0 at (inside c b) (row_of Return) refl refl le)
   inner_comes at c b Close h = absurd (cc)
 

@@ -18,7 +18,7 @@ use Rattle.asm_line.specs.Operand.{number_of}
 use Rattle.asm_line.specs.Read.{checked, end_of_line, number_that, raw_as, sole_operand, with_number, with_ok}
 use Rattle.asm_line.specs.Row.{constant, Into, LitByte, One, Skip}
 use Rattle.asm_line.proofs.Numbers.{Writes, decimal_writes, signed_writes}
-use Rattle.asm_line.proofs.Spaced.{AreWords, is_word, spaced, word}
+use Rattle.asm_line.proofs.Spaced.{AreWords, is_word, spaced, tested_word}
 use Rattle.asm_line.proofs.Text.{both}
 use Rattle.asm_line.proofs.Written.{AllRead, MadeOf, Reads, all_read-append, all_read-map, alone-reads, byte-reads, line-reads, skip-reads, text-made, word-reads}
 use Rattle.asm_link.proofs.Instrs.{instr_row}
@@ -71,7 +71,7 @@ instr_read i h =
     let name : List ℕ = name_of_op i.op in
     let width : ℕ = width_of_op i.op in
     subst (λ (t : List ℕ). Reads (codes "op " ++ t) (instr_row i)) (operand_spaced name width i.operand) (
-      line-reads (codes "op") (name ∷ operand_words width i.operand) (instr_row i) (word (codes "op") refl) (word name (names i.op), are_words width i.operand h) (
+      line-reads (codes "op") (name ∷ operand_words width i.operand) (instr_row i) (tested_word (codes "op") refl) (tested_word name (names i.op), are_words width i.operand h) (
         ap (λ o. raw_as o name (operand_words width i.operand)) (named i.op)
         ∙ operand_read i.op width i.operand h
       )

@@ -110,7 +110,7 @@ rows_come all z image =
     let le : bytes ≤ 2 ^ 27 = length-code z image in
     let some : 0 ≤ 2 ^ 27 = omega arith in
     let code_come : RowsCome all count 0 0 start (code_rows z) z.code [] [] (before Code count bytes 4 0 0) =
-    rows-come_as (append_rows-come (into_comes all count 0 0 0 some 4 0 0 Code Code) (instrs-come all count 0 (0 + 1) start z.code image.encodable image.branches_within (omega (arith, le)))) refl refl refl
+    rows-come_as (append_rows-come (into_comes all count 0 0 0 some 4 0 0 Code Code) (instrs-come all count 0 (0 + 1) start z.code refl image.encodable image.branches_within (omega (arith, le)))) refl refl refl
     (λ i. before Code (zero-add count i) (zero-add bytes i) 4 0 0) in
     let size : ℕ = 4 + 4 * length (words_of_data z) in
     rows-come_as
