@@ -1,0 +1,5 @@
+// Handlers of traps, by the traps' numbers.
+#![tactic(auto)]
+
+pub mod handler;
+pub mod registry;
