@@ -1,7 +1,7 @@
 -- What a call of a host that never fails and tells nothing tells.
-use Rattle.std.proofs.Common.{◌≡◌, Ok, Err, refl}
-use Rattle.std.specs.Prelude.{Option, None, Result, IsOk, OnErr}
-use Rattle.qv_outside.specs.Event.{Event, Reply}
+use Rattle.std.proofs.Common.{Ok, Err, refl}
+use Rattle.std.specs.Prelude.{None, Result, IsOk, OnErr}
+use Rattle.qv_outside.specs.Event.{Event}
 use Rattle.qv_outside.specs.Hosts.{AskedFor, Replied}
 use Rattle.qv_outside.specs.declared.host.TrapReply.{TrapReply}
 use Rattle.qv_outside.specs.declared.host.HostFailed.{HostFailed}

@@ -1,5 +1,5 @@
 -- What a handler of a trap is given, and what it owes.
-use Rattle.std.specs.Prelude.{◌≡◌, ℕ, ◌≤◌, List, length}
+use Rattle.std.specs.Prelude.{◌≡◌, ℕ, ◌<◌, ◌≤◌, ◌^◌, List, length}
 use denote.Ref.{Bor, MutBor}
 use Rattle.qv_outside.specs.Hosts.{HasShape}
 use Rattle.qv_outside.specs.declared.signature.Sig.{Sig}
@@ -16,10 +16,12 @@ Post = Bor (List ℕ) → Bor (List ℕ) → Bor (List ℕ) → MutBor (List ℕ
 
 -- what a call gives a handler: its words, its texts and room for what it asks
 pub record Gives (call : TrapCall) (ints first second room : List ℕ) : Type 0 where
+  pub count : length ints ≡ 14
   pub ints_are : ints ≡ call.ints
   pub first_is : first ≡ call.first.now
   pub second_is : second ≡ call.second.now
   pub room_is : length room ≡ call.out_len
+  pub room_fits : length room < 2 ^ 32
 
 -- these are the arguments of a call of this signature
 pub record AreArguments (sig : Sig) (ints first second room : List ℕ) : Type 0 where

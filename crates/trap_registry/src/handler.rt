@@ -27,6 +27,7 @@ impl Registered {
         ensures used { result.used ≤ call.now.out_len }
         ensures replies { Replies (post self.now.handler) call.now out.old result out.new }
     {
+        prove!(out.len() == call.out_len as usize);
         (self.handler)(&call.ints, call.first, call.second, out)
     }
 }

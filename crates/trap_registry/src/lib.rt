@@ -3,3 +3,5 @@
 
 pub mod handler;
 pub mod registry;
+#[cfg(test)]
+mod tests;

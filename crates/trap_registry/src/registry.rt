@@ -78,7 +78,11 @@ impl Registry {
         }
         match self.handlers.insert(number, Registered { sig, handler }) {
             Ok(_) => Ok(()),
-            Err(AllocFailed { value: (_, Registered { handler, .. }) }) => Err(Unregistered {
+            Err(
+                AllocFailed {
+                    value: (_, Registered { handler, .. }),
+                },
+            ) => Err(Unregistered {
                 kind: UnregisteredKind::NoMemory,
                 handler,
             }),

@@ -11,5 +11,5 @@ call-tells g c = record {
   kept = refl;
   table = c.ensures.table;
   later = omega arith;
-  cause = not_failed _ _ c.ensures.never
+  cause = not_failed _ _ c.ensures.never;
 }
