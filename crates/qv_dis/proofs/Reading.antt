@@ -71,10 +71,10 @@ instr_read i h =
     let name : List ℕ = name_of_op i.op in
     let width : ℕ = width_of_op i.op in
     subst (λ (t : List ℕ). Reads (codes "op " ++ t) (instr_row i)) (operand_spaced name width i.operand) (
-      line-reads (codes "op") (name ∷ operand_words width i.operand) (instr_row i) (tested_word (codes "op") refl) (tested_word name (names i.op), are_words width i.operand h) (
-        ap (λ o. raw_as o name (operand_words width i.operand)) (named i.op)
-        ∙ operand_read i.op width i.operand h
-      )
+    line-reads (codes "op") (name ∷ operand_words width i.operand) (instr_row i) (tested_word (codes "op") refl) (tested_word name (names i.op), are_words width i.operand h) (
+    ap (λ o. raw_as o name (operand_words width i.operand)) (named i.op)
+    ∙ operand_read i.op width i.operand h
+    )
     )
 
 -- bytes and words
@@ -132,9 +132,9 @@ bss_read z image = (alone-reads (codes "bss") (Into Bss) refl refl, zeros_read (
 lines_read : (z : Qvm) → IsImage z → AllRead (lines_of_image z) (image_rows z)
 lines_read z image =
     all_read-append (code_lines z.code) (data_lines z.data_part ++ (lit_lines z.lit ++ bss_lines z.bss)) (code_rows z) (data_rows z ++ (lit_rows z ++ bss_rows z.bss)) (code_read z image) (
-      all_read-append (data_lines z.data_part) (lit_lines z.lit ++ bss_lines z.bss) (data_rows z) (lit_rows z ++ bss_rows z.bss) (data_read z image) (
-        all_read-append (lit_lines z.lit) (bss_lines z.bss) (lit_rows z) (bss_rows z.bss) (lit_read z image) (bss_read z image)
-      )
+    all_read-append (data_lines z.data_part) (lit_lines z.lit ++ bss_lines z.bss) (data_rows z) (lit_rows z ++ bss_rows z.bss) (data_read z image) (
+    all_read-append (lit_lines z.lit) (bss_lines z.bss) (lit_rows z) (bss_rows z.bss) (lit_read z image) (bss_read z image)
+    )
     )
 
 -- the text of an image is made of its rows
