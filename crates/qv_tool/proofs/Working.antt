@@ -219,14 +219,6 @@ module _ (table : Table) (c : Option Command) where
       completes_leaves (Builds steps calls target e) old new failed report.status report.line.items report is (told_is_end (image_run follower.image table calls [] steps) report.status report.line.items tells)
       (record { bytes = bytes; follower = follower; tells = tells; value_is = value; held = subst R none (subst S stays stores) }) (record { status_is = refl; line_is = refl })
 
--- the work of the command that the words stand for
-pub of_command : (table : Table) (c d : Option Command) (old new : Option FileMap) (failed : Option (List ℕ)) (result : Result Report Wanting) → c ≡ d → IfSome old (λ held. Leaves table c held new failed result) → IfSome old (λ held. Leaves table d held new failed result)
-of_command table c d old new failed result e works = let P : Option Command → Type 0 = λ x. IfSome old (λ held. Leaves table x held new failed result) in subst P e works
-
 -- words that stand for no command
 pub unreadable_leaves : (table : Table) (old : Option FileMap) (failed : Option (List ℕ)) (result : Result Report Wanting) → IfOk result (λ report. Says Usage (line (codes "usage")) report) → IfSome old (λ held. Leaves table None held old failed result)
 unreadable_leaves table old failed result says = refused_leaves table None Unreadable old old failed Usage (line (codes "usage")) result (if_told old (λ held. refl)) refl tt refl says
-
--- a command whose form isn't served yet
-pub unready_leaves : (table : Table) (c : Command) (old : Option FileMap) (failed : Option (List ℕ)) (result : Result Report Wanting) → task_of c ≡ None → IfOk result (λ report. Says NotYet (line (codes "not yet")) report) → IfSome old (λ held. Leaves table (Some c) held old failed result)
-unready_leaves table c old failed result none says = refused_leaves table (Some c) Unready old old failed NotYet (line (codes "not yet")) result (if_told old (λ held. ap (of_task held) none)) refl tt refl says

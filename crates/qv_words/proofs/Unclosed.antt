@@ -16,10 +16,17 @@ not_none o n is none = cc
 differ : (b quote : ℕ) → (b == quote) ≡ false → b ≡ quote → ⊥
 differ b quote other e = grind (arith, nat_tests)
 
+same_number : (b quote : ℕ) → (b == quote) ≡ true → b ≡ quote
+same_number b quote equal = grind (arith, nat_tests)
+
+either : (j k : Bool) → (j || k) ≡ true → (j ≡ true) ⊎ (k ≡ true)
+either true k is = inl refl
+either false k is = inr is
+
 -- one more quote is known to close none
-module _ (old new : Unclosed) (quote : ℕ) (more : (q : ℕ) → IsTrue (is_unclosed new q) → IsTrue (is_unclosed old q) ⊎ (q ≡ quote)) where
+module _ (old new : Unclosed) (quote : ℕ) (more : (q : ℕ) → is_unclosed new q ≡ (is_unclosed old q || (q == quote))) where
   first_unclosed : (b : ℕ) (bs : List ℕ) → (b ≡ quote → constant_length quote bs ≡ None) → (IsTrue (is_unclosed old b) → constant_length b bs ≡ None) → IsTrue (is_unclosed new b) → constant_length b bs ≡ None
-  first_unclosed b bs same before is = elim (more b is) [ inl was ↦ before was | inr e ↦ ap (λ q. constant_length q bs) e ∙ same e ]
+  first_unclosed b bs same before is = elim (either (is_unclosed old b) (b == quote) (sym (more b) ∙ is)) [ inl was ↦ before was | inr equal ↦ let e : b ≡ quote = same_number b quote equal in ap (λ q. constant_length q bs) e ∙ same e ]
 
   unclosed_step : (j k : Bool) (b c : ℕ) (bs : List ℕ) → (b == quote) ≡ j → (b == 92) ≡ k → constant_length quote (b ∷ c ∷ bs) ≡ None →
       (constant_length quote bs ≡ None → AreUnclosed new bs) → (constant_length quote (c ∷ bs) ≡ None → AreUnclosed new (c ∷ bs)) → AreUnclosed old (b ∷ c ∷ bs) → AreUnclosed new (b ∷ c ∷ bs)

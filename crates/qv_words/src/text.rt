@@ -1,5 +1,5 @@
 //! How the text of a definition is cut, and which texts a definition may have.
-ghost use Rattle.std.specs.Prelude.{◌≡◌, ◌⊎◌, ◌∷◌, ℕ, ◌+◌, ◌<◌, ◌≤◌, ◌==◌, IfOk, IfSome, IsTrue, Some, option_map, option_copied, unwrap_or, length, vec_items, if◌then◌else◌};
+ghost use Rattle.std.specs.Prelude.{◌≡◌, ◌||◌, ◌∷◌, ℕ, ◌+◌, ◌<◌, ◌≤◌, ◌==◌, IfOk, IfSome, IsTrue, Some, option_map, option_copied, unwrap_or, length, vec_items, if◌then◌else◌};
 ghost use Rattle.std.specs.List.{list_any};
 ghost use Rattle.qv_words.specs.Text.{is_blank, is_quote, is_paste, blank_piece, token_piece, starts_with, comment_length, constant_length, piece_at, tokens_of, is_definition_text, AreUnclosed};
 
@@ -50,7 +50,7 @@ impl Unclosed {
 
     fn add(&mut self, quote: u8)
         requires { IsTrue (is_quote quote) }
-        ensures { (q : ℕ) → IsTrue (is_unclosed self.new q) → IsTrue (is_unclosed self.old q) ⊎ (q ≡ quote) }
+        ensures { (q : ℕ) → is_unclosed self.new q ≡ (is_unclosed self.old q || (q == quote)) }
     {
         if quote == b'"' {
             self.double = true;

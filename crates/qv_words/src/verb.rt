@@ -100,7 +100,15 @@ pub fn takes(verb: Verb, option: OptionName) -> bool
         Verb::Assemble => matches!(option, OptionName::Image | OptionName::ListFile),
         Verb::Disassemble => false,
         Verb::Run => matches!(option, OptionName::Steps | OptionName::Word),
-        Verb::Build => !matches!(option, OptionName::Folder | OptionName::ListFile),
+        Verb::Build => matches!(
+            option,
+            OptionName::IncludeDir
+                | OptionName::Definition
+                | OptionName::Binds
+                | OptionName::Image
+                | OptionName::Steps
+                | OptionName::Word
+        ),
         Verb::Generate => matches!(
             option,
             OptionName::Image | OptionName::Steps | OptionName::Word
