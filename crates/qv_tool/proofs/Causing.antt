@@ -98,7 +98,7 @@ module _ (c : Option Command) (before after : Keeper) where
   pub told_cause : (end : CallsEnd) (result : Result Report Wanting) → IsServed c → IfOk result (λ report. Tells end report.status report.line.items) → IfOk result (λ report. HasCause c before after report.status)
   told_cause end result served tells =
       let P : Status → Type 0 = λ s. HasCause c before after s in
-      if_ok result (λ report t. subst P (sym t.status_is) (stop_has (last_stop end.coming end.words) served)) tells
+      if_ok result (λ report t. subst P (sym t.status_is) (stop_has (last_stop end.outcome end.words) served)) tells
 
   -- an image has a fault
   damaged_has : (fault : ImageFault) (report : Report) → IsServed c → SaysDamaged fault report → HasCause c before after report.status
