@@ -3,4 +3,5 @@ pub mod Machine
 pub mod Calls
 pub mod Joined
 pub mod Ran
+pub mod CallsRan
 pub mod Module
