@@ -11,4 +11,5 @@ pub mod Rows
 pub mod Quiet
 pub mod QuietRuns
 pub mod QuietCalls
+pub mod CallsRanLaws
 pub mod Pieces

@@ -197,10 +197,10 @@ step_ran f s now result old new (inr (inl (p, a, r))) = put_any f s now result o
 step_ran f s now result old new (inr (inr (inl (p, a, r)))) = raise_any f s now result old new p a r
 step_ran f s now result old new (inr (inr (inr (p, w)))) = call_any f s now result old new p w
 
-appends_filter : (a b c : Option (List Event)) (es vs : List Event) → Appends a b (host_events es) → Appends b c (host_events vs) → Appends a c (host_events (es ++ vs))
+pub appends_filter : (a b c : Option (List Event)) (es vs : List Event) → Appends a b (host_events es) → Appends b c (host_events vs) → Appends a c (host_events (es ++ vs))
 appends_filter a b c es vs p q = appends_events a c (host_events (es ++ vs)) (host_events es ++ host_events vs) (filter-append is_host es vs) (appends_joined a b c (host_events es) (host_events vs) p q)
 
-appends_output : (a b c : Option (List ℕ)) (es vs : List Event) → Appends a b (output es) → Appends b c (output vs) → Appends a c (output (es ++ vs))
+pub appends_output : (a b c : Option (List ℕ)) (es vs : List Event) → Appends a b (output es) → Appends b c (output vs) → Appends a c (output (es ++ vs))
 appends_output a b c es vs p q = let P : List ℕ → Type 0 = λ t. Appends a c t in subst P (sym (flat_map-append text_of es vs)) (appends_joined a b c (output es) (output vs) p q)
 
 whole_joined : (f : State → Step) (n m : ℕ) (s t u : State) (a b c : Outside) (es vs : List Event) (rs qs : List Reply) (ending : Ending) →
@@ -211,7 +211,7 @@ whole_joined f n m s t u a b c es vs rs qs ending p q = record {
   written = appends_output a.written b.written c.written es vs p.written q.written;
 }
 
-asked_joined : (a b c : Option (List Event)) (es vs : List Event) (e : Event) → Appends a b (host_events es) → Appends b c (host_events vs) ⊎ Appends b c (host_events (vs ++ e ∷ [])) →
+pub asked_joined : (a b c : Option (List Event)) (es vs : List Event) (e : Event) → Appends a b (host_events es) → Appends b c (host_events vs) ⊎ Appends b c (host_events (vs ++ e ∷ [])) →
     Appends a c (host_events (es ++ vs)) ⊎ Appends a c (host_events (es ++ vs ++ e ∷ []))
 asked_joined a b c es vs e p (inl q) = inl (appends_filter a b c es vs p q)
 asked_joined a b c es vs e p (inr q) = inr (appends_events a c (host_events (es ++ vs ++ e ∷ [])) (host_events (es ++ (vs ++ e ∷ []))) (ap (λ x. host_events x) (append_assoc es vs (e ∷ []))) (appends_filter a b c es (vs ++ e ∷ []) p q))
