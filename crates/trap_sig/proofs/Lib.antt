@@ -1,0 +1,6 @@
+mod First
+mod Args
+mod Ints
+mod Lending
+mod Shape
+mod HasShape
