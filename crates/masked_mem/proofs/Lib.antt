@@ -1,2 +1,3 @@
 mod Masks
 pub mod Sizes
+pub mod Lengths

@@ -25,6 +25,15 @@ text_at memory at = option_map (bytes_at memory at) (position (λ b. b == 0) (dr
 abbrev pub range_at : List ℕ → ℕ → ℕ → Option (List ℕ)
 range_at memory at len = if nat_le (at + len) (length memory) then Some (bytes_at memory at len) else None
 
+-- the bytes before the first NUL among these len bytes, or all of them where there is none; none where they leave the
+-- memory
+abbrev pub bounded : List ℕ → ℕ → ℕ → Option ℕ → Option (List ℕ)
+bounded memory at len None = range_at memory at len
+bounded memory at len (Some n) = Some (bytes_at memory at n)
+
+abbrev pub text_within : List ℕ → ℕ → ℕ → Option (List ℕ)
+text_within memory at len = bounded memory at len (position (λ b. b == 0) (bytes_at memory at len))
+
 -- the place of the length, where the kind names one, is one of so many
 abbrev pub IsPlaced : ℕ → Kind → Type 0
 IsPlaced count Int = Unit {0}

@@ -3,7 +3,7 @@ ghost use Rattle.std.specs.Prelude.{◌≡◌, ◌≤◌, ◌<◌, ◌+◌, ◌^
 ghost use Rattle.std.specs.List.{position};
 ghost use Rattle.std.specs.Option.{option_copied, option_map};
 ghost use Rattle.masked_mem.specs.Memory.{put_at};
-ghost use Rattle.trap_sig.specs.Gather.{argument, arguments, text_at, range_at, reached, IsPlaced};
+ghost use Rattle.trap_sig.specs.Gather.{argument, arguments, text_at, text_within, range_at, reached, IsPlaced};
 
 use masked_mem::block::Block;
 use memchr::memchr;
@@ -64,6 +64,21 @@ pub fn range(block: &Block, at: u32, len: u32) -> Option<&[u8]>
         Some(block.slice(at, len))
     } else {
         None
+    }
+}
+
+/// The bytes from `at` on that stand before the first NUL, at most `len`, or none where they leave the block.
+pub fn text_within(block: &Block, at: u32, len: u32) -> Option<&[u8]>
+    ensures { option_copied result ≡ text_within block.now at len }
+{
+    let size = block.size();
+    if at > size {
+        return None;
+    }
+    let near = block.slice(at, len.min(size - at));
+    match nul_in(near) {
+        Some(text_len) => Some(&near[..text_len]),
+        None => range(block, at, len),
     }
 }
 

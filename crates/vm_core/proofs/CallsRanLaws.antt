@@ -1,21 +1,18 @@
 -- Laws of calls one after another with the outside.
-use Rattle.std.proofs.Common.{◌≡◌, ℕ, ◌<◌, ◌+◌, List, [], ◌∷◌, ◌++◌, Option, length, take, drop, get_or, suc, refl, sym, ap, ◌∙◌, subst}
+use Rattle.std.proofs.Common.{◌≡◌, ℕ, ◌<◌, ◌+◌, List, [], ◌∷◌, ◌++◌, length, take, drop, get_or, suc, refl, sym, ap, ◌∙◌, subst}
 use Rattle.std.proofs.Math.Seq.{split_at}
 use Rattle.std.proofs.lemmas.List.{append_assoc, append-nil, take_more}
 use Rattle.std.proofs.lemmas.List.Elements.{filter-append}
 use Rattle.qv_outside.specs.Told.{Appends}
 use Rattle.qv_outside.specs.Event.{Event, Reply, Answered, is_host, host_events, output}
-use Rattle.qv_outside.specs.Hosts.{Table}
-use Rattle.qv_ops.specs.declared.instr.Instr.{Instr}
 use Rattle.vm_core.specs.declared.stop.Stop.{Stop}
 use Rattle.vm_core.specs.declared.stop.Stop.TheVariants.{Returned, Budget, HostFault, OutFault}
-use Rattle.vm_core.specs.Machine.{State, Step, Ending, Going, Stopped, Asks, End, runs, started, step}
+use Rattle.vm_core.specs.Machine.{State, Step, Ending, Going, Stopped, Asks, End, runs, started}
 use Rattle.vm_core.specs.Calls.{CallsEnd, AllReturned, Ended, with_calls, on_end, calls_run}
 use Rattle.vm_core.specs.Ran.{Outside, Ran, RanAsDefined, HostFailed, OutFailed, outcome_of}
 use Rattle.vm_core.specs.CallsRan.{CallsRan, CallsRanTo, AsCalled, ByHost, ByOut, last_word}
 use Rattle.vm_core.proofs.Appending.{appends_nil, appends_joined}
 use Rattle.vm_core.proofs.CallLaws.{calls_joined, nothing_left, one_more}
-use Rattle.vm_core.proofs.Loop.{ran_at}
 use Rattle.vm_core.proofs.RanLaws.{answered_joined, appends_filter, appends_output, asked_joined}
 use Rattle.vm_core.proofs.Runs.{events_grow}
 

@@ -7,9 +7,11 @@ pub mod CallLaws
 pub mod Goes
 pub mod Frame
 pub mod Replies
+pub mod TextCopies
+pub mod Serving
+pub mod Stepping
 pub mod Rows
 pub mod Quiet
-pub mod QuietRuns
 pub mod QuietCalls
 pub mod CallsRanLaws
 pub mod Pieces

@@ -1,12 +1,11 @@
 -- The loop of a run.
 use Rattle.std.proofs.Common.{◌≡◌, ℕ, ◌+◌, ◌-◌, ◌<◌, List, [], Option, Some, None, inl, inr, refl, sym, subst, arith}
-use Rattle.std.specs.FinMap as map
 use Rattle.qv_ops.specs.declared.instr.Instr.{Instr}
 use Rattle.qv_outside.specs.Hosts.{Table}
 use Rattle.vm_core.specs.declared.stop.Stop.{Stop}
 use Rattle.vm_core.specs.declared.stop.Stop.TheVariants.{Budget, HostFault, OutFault}
 use Rattle.vm_core.specs.Machine.{State, Step, Going, step}
-use Rattle.vm_core.specs.Ran.{Outside, Outcome, AsDefined, outcome_of, Ran, Halts, Did}
+use Rattle.vm_core.specs.Ran.{Outside, Outcome, AsDefined, outcome_of, Ran, Did}
 use Rattle.vm_core.proofs.Appending.{appends_nil}
 use Rattle.vm_core.proofs.Runs.{runs-zero}
 use Rattle.vm_core.proofs.RanLaws.{step_ran, ran_joined, ran_stays}
@@ -37,23 +36,9 @@ ran_at {code = code} {code2 = code2} {table = table} {table2 = table2} {n = n} {
 pub ran_for : (f : State → Step) (m n : ℕ) (s t : State) (a b : Outside) (outcome : Outcome) → m ≡ n → Ran f m s t a b outcome → Ran f n s t a b outcome
 ran_for f m n s t a b outcome e r = let P : ℕ → Type 0 = λ k. Ran f k s t a b outcome in subst P e r
 
--- a plain step, which nothing outside sees
-pub halts_did : (t : Step) (now : State) (told : Outside) (result : Option Stop) → Halts t now result → Did t now told told result
-halts_did t now told result h = inl (h, refl)
-
-pub halts_along : (t u : Step) (now : State) (result : Option Stop) → t ≡ u → Halts u now result → Halts t now result
-halts_along t u now result e h = let P : Step → Type 0 = λ v. Halts v now result in subst P (sym e) h
-
--- a plain step ends by no fault of the host or of the sink
-pub halts_no_host_fault : (t : Step) (now : State) (result : Option Stop) (stop : Stop) → Halts t now result → result ≡ Some stop → stop ≡ HostFault → ⊥
-halts_no_host_fault t now result stop h e f = let P : Option Stop → Type 0 = λ r. Halts t now r in let Q : Stop → Type 0 = λ s. Halts t now (Some s) in subst Q f (subst P e h)
-
-pub halts_no_out_fault : (t : Step) (now : State) (result : Option Stop) (stop : Stop) → Halts t now result → result ≡ Some stop → stop ≡ OutFault → ⊥
-halts_no_out_fault t now result stop h e f = let P : Option Stop → Type 0 = λ r. Halts t now r in let Q : Stop → Type 0 = λ s. Halts t now (Some s) in subst Q f (subst P e h)
-
--- the table of a host that answers no traps
-pub no_traps : Table
-no_traps = map.empty
+-- a step of the same code over the same table
+pub did_at : (code : List Instr) (table table2 : Table) (s now : State) (result : Option Stop) (old new : Outside) → table2 ≡ table → Did (step code table2 s) now old new result → Did (step code table s) now old new result
+did_at code table table2 s now result old new q d = let Q : Table → Type 0 = λ x. Did (step code x s) now old new result in subst Q q d
 
 not_budget : (t : Step) (now : State) (old new : Outside) → Did t now old new (Some Budget) → ⊥
 not_budget t now old new (inl (h, q)) = h

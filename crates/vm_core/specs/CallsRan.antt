@@ -2,8 +2,8 @@
 use Rattle.std.specs.Prelude.{◌≡◌, ℕ, true, false, ◌⊎◌, List, [], ◌∷◌, ◌++◌, Option}
 use Rattle.qv_outside.specs.Told.{Appends, AppendsPrefix}
 use Rattle.qv_outside.specs.Event.{Event, Reply, is_host, host_events, text_of, output, Answered}
-use Rattle.vm_core.specs.Machine.{State, Step, Ending, Going, Stopped, Asks}
-use Rattle.vm_core.specs.Calls.{CallsOutcome, AllReturned, Ended, CallsEnd, calls_run}
+use Rattle.vm_core.specs.Machine.{State, Step, Going, Stopped, Asks}
+use Rattle.vm_core.specs.Calls.{CallsOutcome, AllReturned, Ended, calls_run}
 use Rattle.vm_core.specs.Ran.{Outside}
 use Rattle.vm_core.specs.declared.stop.Stop.{Stop}
 use Rattle.vm_core.specs.declared.stop.Stop.TheVariants.{Returned, Budget, HostFault, OutFault}

@@ -1,7 +1,10 @@
 pub mod Memory
+pub mod State
+pub mod Traps
 pub mod Machine
 pub mod Calls
 pub mod Joined
 pub mod Ran
+pub mod Served
 pub mod CallsRan
 pub mod Module

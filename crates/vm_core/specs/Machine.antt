@@ -1,4 +1,4 @@
--- The machine: its state, its step, and a run of steps over a list of replies.
+-- The machine: its step, and a run of steps over a list of replies.
 use Rattle.std.specs.Prelude.{ℕ, zero, suc, ◌+◌, ◌-◌, ◌/◌, ◌%◌, ◌^◌, Bool, not, ◌&&◌, List, [], ◌∷◌, ◌++◌, length, replicate, Option, Some, None, slice_get, nat_lt, nat_le, ◌==◌, if◌then◌else◌, bit_and, bit_or, bit_xor}
 use Rattle.qv_base.specs.declared.limits.TheConstants.{STACK_BYTES}
 use Rattle.qv_base.specs.Word.{plus, minus, times, negated, shifted_left, shifted_right, shifted_signed, is_less_signed, quotient_signed, remainder_signed, sign_extended_8, sign_extended_16}
@@ -10,41 +10,10 @@ use Rattle.qv_image.specs.Image.{Qvm}
 use Rattle.qv_outside.specs.Event.{Event, Reply}
 use Rattle.qv_outside.specs.Hosts.{Table}
 use Rattle.vm_core.specs.Memory.{block_size, with_frame}
+pub use Rattle.vm_core.specs.State.{State, Step, Goes, Stops, Puts, Raises, Calls, with_operands, gone_to, with_memory}
+use Rattle.vm_core.specs.Traps.{trapped}
 use Rattle.vm_core.specs.declared.stop.Stop.{Stop}
-use Rattle.vm_core.specs.declared.stop.Stop.TheVariants.{Returned, OperandOver, OperandUnder, StackOver, StackUnder, JumpOut, FellOff, DivideZero, DivideOver, CopyRange, UnknownTrap, ModuleError}
-
--- the block, the program stack's place, the operand stack with its top first, and the number of the
--- next instruction
-pub record State : Type 0 where
-  pub memory : List ℕ
-  pub program_stack : ℕ
-  pub operands : List ℕ
-  pub next : ℕ
-
--- what one instruction does, up to where something outside is put or asked
-pub data Step : Type 0 where
-  -- goes on in this state
-  Goes : State → Step
-  -- stops in this state
-  Stops : Stop → State → Step
-  -- puts what the event says, then goes on
-  Puts : Event → State → Step
-  -- puts what the event says, then stops with ModuleError
-  Raises : Event → State → Step
-  -- asks the host; the state while it asks, and how a reply goes on
-  Calls : Event → State → (Reply → State) → Step
-
--- on to the next instruction, with other operands
-abbrev pub with_operands : State → List ℕ → State
-with_operands s words = record { memory = s.memory; program_stack = s.program_stack; operands = words; next = s.next + 1 }
-
--- on to the instruction at a place, with other operands
-abbrev pub gone_to : State → List ℕ → ℕ → Step
-gone_to s words place = Goes (record { memory = s.memory; program_stack = s.program_stack; operands = words; next = place })
-
--- another memory
-abbrev pub with_memory : State → List ℕ → State
-with_memory s memory = record { memory = memory; program_stack = s.program_stack; operands = s.operands; next = s.next }
+use Rattle.vm_core.specs.declared.stop.Stop.TheVariants.{Returned, OperandOver, OperandUnder, StackOver, StackUnder, JumpOut, FellOff, DivideZero, DivideOver, CopyRange, ModuleError}
 
 -- a push of a word onto those below
 abbrev pub pushed : State → List ℕ → ℕ → Step
@@ -134,10 +103,6 @@ left count v s = if nat_lt (length s.memory - 64) (s.program_stack + v) then Sto
 abbrev pub jumped : ℕ → State → List ℕ → Step
 jumped count s [] = Stops OperandUnder s
 jumped count s (t ∷ rest) = if nat_lt t count then gone_to s rest t else Stops (JumpOut t) s
-
--- trap k. No trap is known yet
-abbrev pub trapped : Table → ℕ → State → Step
-trapped table k s = Stops (UnknownTrap k) s
 
 -- CALL of t, once the word is taken and the next instruction's number stored: a t that is negative is
 -- trap -1 - t, whose number is stored behind

@@ -1,8 +1,10 @@
 //! Stores and copies.
-ghost use Rattle.std.specs.Prelude.{◌≡◌, ◌<◌, ◌^◌, ℕ, List};
+ghost use Rattle.std.specs.Prelude.{◌≡◌, ◌<◌, ◌^◌, ℕ, List, length};
+ghost use Rattle.masked_mem.specs.Memory.{IsSize};
 ghost use Rattle.vm_core.specs.Machine.{stored, argued, copied};
-ghost use Rattle.vm_core.specs.Module.{state_at, operands_at, IsStep, Stores};
+ghost use Rattle.vm_core.specs.Module.{state_at, operands_at, IsStep, KeepsSize, Stores};
 
+use crate::halt::Halt;
 use crate::module::{Registers, Words};
 use crate::stack::{holds, word_at};
 use crate::stop::Stop;
@@ -15,13 +17,15 @@ pub fn store<F: FnOnce(&mut Block, u32, u32)>(
     words: &Words,
     r: &mut Registers,
     store: F,
-) -> Option<Stop>
+) -> Option<Halt>
     requires next { r.old.next < 2 ^ 31 }
     requires callable { F.IsAlwaysCallable store }
-    ensures { (g : List ℕ → ℕ → ℕ → List ℕ) → Stores (F.post store) g → IsStep (stored (state_at block.old words.now r.old) (operands_at words.now r.old) (g block.old)) block.new words.now r.new result }
+    requires size { IsSize (length block.old) }
+    ensures step { (g : List ℕ → ℕ → ℕ → List ℕ) → Stores (F.post store) g → IsStep (stored (state_at block.old words.now r.old) (operands_at words.now r.old) (g block.old)) block.new words.now r.new result }
+    ensures size { KeepsSize (F.post store) → length block.new ≡ length block.old }
 {
     if !holds(words, r.top, 2) {
-        return Some(Stop::OperandUnder);
+        return Some(Halt::Stop(Stop::OperandUnder));
     }
     let t = word_at(words, r.top);
     let s = word_at(words, r.top + 1);
@@ -32,12 +36,14 @@ pub fn store<F: FnOnce(&mut Block, u32, u32)>(
 }
 
 /// ARG: stores the top word at `offset` from the program stack's place.
-pub fn argument(block: &mut Block, words: &Words, r: &mut Registers, offset: u32) -> Option<Stop>
-    requires { r.old.next < 2 ^ 31 }
-    ensures { IsStep (argued offset (state_at block.old words.now r.old) (operands_at words.now r.old)) block.new words.now r.new result }
+pub fn argument(block: &mut Block, words: &Words, r: &mut Registers, offset: u32) -> Option<Halt>
+    requires next { r.old.next < 2 ^ 31 }
+    requires size { IsSize (length block.old) }
+    ensures step { IsStep (argued offset (state_at block.old words.now r.old) (operands_at words.now r.old)) block.new words.now r.new result }
+    ensures size { length block.new ≡ length block.old }
 {
     if !holds(words, r.top, 1) {
-        return Some(Stop::OperandUnder);
+        return Some(Halt::Stop(Stop::OperandUnder));
     }
     let t = word_at(words, r.top);
     r.top += 1;
@@ -47,17 +53,18 @@ pub fn argument(block: &mut Block, words: &Words, r: &mut Registers, offset: u32
 }
 
 /// BLOCK_COPY: copies `len` bytes from the top word `t` to the word `s` below it.
-pub fn block_copy(block: &mut Block, words: &Words, r: &mut Registers, len: u32) -> Option<Stop>
+pub fn block_copy(block: &mut Block, words: &Words, r: &mut Registers, len: u32) -> Option<Halt>
     requires { r.old.next < 2 ^ 31 }
-    ensures { IsStep (copied len (state_at block.old words.now r.old) (operands_at words.now r.old)) block.new words.now r.new result }
+    ensures step { IsStep (copied len (state_at block.old words.now r.old) (operands_at words.now r.old)) block.new words.now r.new result }
+    ensures size { length block.new ≡ length block.old }
 {
     if !holds(words, r.top, 2) {
-        return Some(Stop::OperandUnder);
+        return Some(Halt::Stop(Stop::OperandUnder));
     }
     let t = word_at(words, r.top);
     let s = word_at(words, r.top + 1);
     if s % 4 != 0 || t % 4 != 0 || len % 4 != 0 || !block.fits(s, len) || !block.fits(t, len) {
-        return Some(Stop::CopyRange);
+        return Some(Halt::Stop(Stop::CopyRange));
     }
     r.top += 2;
     block.copy(s, t, len);

@@ -3,6 +3,7 @@ ghost use Rattle.std.specs.Prelude.{◌≡◌, ◌<◌, ◌^◌, ℕ, Bool};
 ghost use Rattle.vm_core.specs.Machine.{branched};
 ghost use Rattle.vm_core.specs.Module.{Computes, IsRow};
 
+use crate::halt::Halt;
 use crate::module::{Registers, Words};
 use crate::stack::{holds, word_at};
 use crate::stop::Stop;
@@ -14,13 +15,13 @@ pub fn branch<F: Fn(u32, u32) -> bool>(
     r: &mut Registers,
     place: u32,
     is_taken: F,
-) -> Option<Stop>
+) -> Option<Halt>
     requires next { r.old.next < 2 ^ 31 }
     requires callable { F.IsAlwaysCallable is_taken }
     ensures { (f : ℕ → ℕ → Bool) → Computes (F.post is_taken) f → IsRow (λ s. branched place s s.operands f) words.now r.old words.now r.new result }
 {
     if !holds(words, r.top, 2) {
-        return Some(Stop::OperandUnder);
+        return Some(Halt::Stop(Stop::OperandUnder));
     }
     let t = word_at(words, r.top);
     let s = word_at(words, r.top + 1);

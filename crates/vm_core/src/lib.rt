@@ -6,12 +6,15 @@ mod accesses;
 mod arithmetic;
 mod branches;
 mod entry;
+mod exchange;
 mod frames;
 mod fresh;
+mod halt;
 pub mod module;
 mod running;
 mod stack;
 mod step;
 pub mod stop;
+mod traps;
 #[cfg(test)]
 mod tests;

@@ -1,18 +1,20 @@
 // Loading, starting and running a module.
-ghost use Rattle.std.specs.Prelude.{◌≡◌, ◌≢◌, IsTrue, ◌↔◌, ◌≤◌, ◌<◌, ◌^◌, length, IfOk, true, false, sum};
+ghost use Rattle.std.specs.Prelude.{◌≡◌, IsTrue, ◌↔◌, ◌≤◌, ◌<◌, ◌^◌, length, IfOk, Some, true, false, sum};
+ghost use Rattle.masked_mem.specs.Memory.{IsSize};
 ghost use Rattle.qv_image.specs.Shown.{qvm_of};
 ghost use Rattle.qv_outside.specs.Causes.{Rose};
-ghost use Rattle.qv_outside.specs.Hosts.{Table};
 ghost use Rattle.vm_core.specs.Machine.{step, started, fresh_memory};
 ghost use Rattle.vm_core.specs.Module.{code_of, state_of, state_at, ready_of};
-ghost use Rattle.vm_core.specs.Ran.{Ran, Outside, outside, outcome_of};
+ghost use Rattle.vm_core.specs.Ran.{Ran, Did, outside, outcome_of};
 
 use crate::entry::entry_frame;
 use crate::fresh::fresh_block;
+use crate::halt::Halt;
 use crate::module::{Module, Registers, Words};
-use crate::stack::empty;
-use crate::step::step;
+use crate::stack::{empty, push_at};
+use crate::step::advance;
 use crate::stop::Stop;
+use crate::traps::serve;
 use masked_mem::block::Block;
 use qv_base::NoMemory;
 use qv_image::image::Image;
@@ -27,7 +29,7 @@ impl Module {
     ///
     /// # Errors
     ///
-    /// NoMemory where memory for the code or the block is refused.
+    /// NoMemory where memory for the code, the block, or the room of a host's reply is refused.
     pub fn load(alloc: Global, image: &Image) -> Result<Module, NoMemory>
         ensures code { IfOk result (λ m. code_of m ≡ (qvm_of image.now).code) }
         ensures memory { IfOk result (λ m. (state_of m).memory ≡ fresh_memory (qvm_of image.now)) }
@@ -35,10 +37,12 @@ impl Module {
     {
         let code = image.code.to_vec(alloc)?;
         let block = fresh_block(alloc, image)?;
+        let room = Vec::from_elem(alloc, 0, block.size() as usize)?;
         let program_stack = block.size() - 64;
         Ok(Module {
             code,
             block,
+            room,
             words: [0; 256],
             registers: Registers {
                 top: 256,
@@ -80,7 +84,7 @@ impl Module {
         &self.block
     }
 
-    /// Makes at most `n` steps: `host` answers traps, and `out` takes the text that is printed. After
+    /// Makes at most `n` steps: `host` answers traps, and `out` takes the text that is printed. It takes no memory. After
     /// `Stop::Budget` it goes on from there when it is run again; after any other stop it has to be
     /// started first.
     // Not inlined: the loop is laid out the same wherever it is called from.
@@ -97,9 +101,20 @@ impl Module {
         ensures host_fault { result ≡ Stop.HostFault → Rose (H.faults host.old) (H.faults host.new) }
         ensures out_fault { result ≡ Stop.OutFault → Rose (O.faults out.old) (O.faults out.new) }
     {
+        // Its size is asked for what is known of it then.
+        let _ = self.block.size();
         let mut words = self.words;
         let mut registers = self.registers;
-        let stop = run_steps(&self.code, &mut self.block, &mut words, &mut registers, n);
+        let stop = run_steps(
+            &self.code,
+            &mut self.block,
+            &mut self.room,
+            &mut words,
+            &mut registers,
+            n,
+            host,
+            out,
+        );
         self.words = words;
         self.registers = registers;
         self.ready = matches!(stop, Stop::Budget);
@@ -135,26 +150,72 @@ impl Module {
     }
 }
 
-// At most n steps, counted down to make the loop short. No instruction asks the host or puts anything
-// yet.
-fn run_steps(
+// At most n steps, counted down to make the loop short.
+fn run_steps<H: Host, O: Sink>(
     code: &[Instr],
     block: &mut Block,
+    room: &mut [u8],
     words: &mut Words,
     r: &mut Registers,
     n: u64,
+    host: &mut H,
+    out: &mut O,
 ) -> Stop
-    requires { length code.now < 2 ^ 31 }
-    ensures ran { (table : Table) (told : Outside) → Ran (step code.now table) n (state_at block.old words.old r.old) (state_at block.new words.new r.new) told told (outcome_of result) }
-    ensures no_host_fault { result ≢ Stop.HostFault }
-    ensures no_out_fault { result ≢ Stop.OutFault }
+    requires code { length code.now < 2 ^ 31 }
+    requires room { length room.old ≡ length block.old }
+    requires size { IsSize (length block.old) }
+    ensures ran { Ran (step code.now (H.table host.old)) n (state_at block.old words.old r.old) (state_at block.new words.new r.new) (outside (H.asked host.old) (H.replied host.old) (O.written out.old)) (outside (H.asked host.new) (H.replied host.new) (O.written out.new)) (outcome_of result) }
+    ensures size { length block.new ≡ length block.old }
+    ensures kept { H.kept host.new ≡ H.kept host.old }
+    ensures table { H.table host.new ≡ H.table host.old }
+    ensures host_later { H.faults host.old ≤ H.faults host.new }
+    ensures out_later { O.faults out.old ≤ O.faults out.new }
+    ensures host_fault { result ≡ Stop.HostFault → Rose (H.faults host.old) (H.faults host.new) }
+    ensures out_fault { result ≡ Stop.OutFault → Rose (O.faults out.old) (O.faults out.new) }
 {
     let mut left = n;
     while left > 0 {
-        if let Some(stop) = step(code, block, words, r) {
+        if let Some(stop) = step(code, block, room, words, r, host, out) {
             return stop;
         }
         left -= 1;
     }
     Stop::Budget
+}
+
+// One step: an instruction, and the trap that it may call.
+fn step<H: Host, O: Sink>(
+    code: &[Instr],
+    block: &mut Block,
+    room: &mut [u8],
+    words: &mut Words,
+    r: &mut Registers,
+    host: &mut H,
+    out: &mut O,
+) -> Option<Stop>
+    requires code { length code.now < 2 ^ 31 }
+    requires room { length room.old ≡ length block.old }
+    requires size { IsSize (length block.old) }
+    ensures did { Did (step code.now (H.table host.old) (state_at block.old words.old r.old)) (state_at block.new words.new r.new) (outside (H.asked host.old) (H.replied host.old) (O.written out.old)) (outside (H.asked host.new) (H.replied host.new) (O.written out.new)) result }
+    ensures size { length block.new ≡ length block.old }
+    ensures kept { H.kept host.new ≡ H.kept host.old }
+    ensures table { H.table host.new ≡ H.table host.old }
+    ensures host_later { H.faults host.old ≤ H.faults host.new }
+    ensures out_later { O.faults out.old ≤ O.faults out.new }
+    ensures host_fault { result ≡ Some Stop.HostFault → Rose (H.faults host.old) (H.faults host.new) }
+    ensures out_fault { result ≡ Some Stop.OutFault → Rose (O.faults out.old) (O.faults out.new) }
+{
+    match advance(code, block, words, r) {
+        None => None,
+        Some(Halt::Stop(stop)) => Some(stop),
+        Some(Halt::Trap(number)) => {
+            match serve(block, room, r.program_stack, number, host, out) {
+                Ok(word) => {
+                    r.top = push_at(words, r.top, word);
+                    None
+                }
+                Err(stop) => Some(stop),
+            }
+        }
+    }
 }

@@ -1,13 +1,15 @@
-//! One step of a module.
+//! One instruction of a module, up to the service of a trap.
 ghost use Rattle.std.specs.Prelude.{◌≡◌, ◌<◌, ◌≤◌, ◌^◌, length};
+ghost use Rattle.masked_mem.specs.Memory.{IsSize};
 ghost use Rattle.qv_outside.specs.Hosts.{Table};
 ghost use Rattle.vm_core.specs.Machine.{step, act};
-ghost use Rattle.vm_core.specs.Module.{state_at, IsStep};
+ghost use Rattle.vm_core.specs.Module.{state_at, Leads};
 
 use crate::accesses::{argument, block_copy, store};
 use crate::arithmetic::{divided, divided_signed, on_top, on_two};
 use crate::branches::branch;
 use crate::frames::{call, enter, jump, leave, pop, push, push_local};
+use crate::halt::Halt;
 use crate::module::{Registers, Words};
 use crate::stop::Stop;
 use masked_mem::block::Block;
@@ -15,13 +17,15 @@ use qv_base::word;
 use qv_ops::instr::Instr;
 use qv_ops::op::Op;
 
-/// One step: nothing where the run goes on, else how it ends.
-pub fn step(code: &[Instr], block: &mut Block, words: &mut Words, r: &mut Registers) -> Option<Stop>
-    requires { length code.now < 2 ^ 31 }
-    ensures { (table : Table) → IsStep (step code.now table (state_at block.old words.old r.old)) block.new words.new r.new result }
+/// One instruction: nothing where the run goes on, else the stop, or the trap that it calls.
+pub fn advance(code: &[Instr], block: &mut Block, words: &mut Words, r: &mut Registers) -> Option<Halt>
+    requires code { length code.now < 2 ^ 31 }
+    requires size { IsSize (length block.old) }
+    ensures leads { (table : Table) → Leads table (step code.now table (state_at block.old words.old r.old)) (state_at block.new words.new r.new) result }
+    ensures size { length block.new ≡ length block.old }
 {
     let Some(instr) = code.get(r.next) else {
-        return Some(Stop::FellOff);
+        return Some(Halt::Stop(Stop::FellOff));
     };
     act(block, words, r, code.len(), *instr)
 }
@@ -33,10 +37,12 @@ fn act(
     r: &mut Registers,
     count: usize,
     instr: Instr,
-) -> Option<Stop>
+) -> Option<Halt>
     requires here { r.old.next < 2 ^ 31 }
     requires fits { count < 2 ^ 31 }
-    ensures { (table : Table) → IsStep (act table count instr.op instr.operand (state_at block.old words.old r.old)) block.new words.new r.new result }
+    requires size { IsSize (length block.old) }
+    ensures leads { (table : Table) → Leads table (act table count instr.op instr.operand (state_at block.old words.old r.old)) (state_at block.new words.new r.new) result }
+    ensures size { length block.new ≡ length block.old }
 {
     let operand = instr.operand;
     match instr.op {
