@@ -15,6 +15,8 @@ mod running;
 mod stack;
 mod step;
 pub mod stop;
-mod traps;
 #[cfg(test)]
 mod tests;
+#[cfg(test)]
+mod trap_tests;
+mod traps;

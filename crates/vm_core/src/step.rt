@@ -18,7 +18,12 @@ use qv_ops::instr::Instr;
 use qv_ops::op::Op;
 
 /// One instruction: nothing where the run goes on, else the stop, or the trap that it calls.
-pub fn advance(code: &[Instr], block: &mut Block, words: &mut Words, r: &mut Registers) -> Option<Halt>
+pub fn advance(
+    code: &[Instr],
+    block: &mut Block,
+    words: &mut Words,
+    r: &mut Registers,
+) -> Option<Halt>
     requires code { length code.now < 2 ^ 31 }
     requires size { IsSize (length block.old) }
     ensures leads { (table : Table) → Leads table (step code.now table (state_at block.old words.old r.old)) (state_at block.new words.new r.new) result }

@@ -106,7 +106,7 @@ fn image(code: Vec<Instr>, data_part: Vec<u8>, lit: Vec<u8>, bss: u32) -> Image
 }
 
 // A module of this code, over these data, these literals and so many zero bytes.
-fn load(
+pub(crate) fn load(
     rt: &impl Abort,
     alloc: Global,
     code: &[(Op, u32)],
