@@ -1,2 +1,5 @@
+mod Bytes
 mod Masks
 pub mod Sizes
+mod Values
+mod Walks

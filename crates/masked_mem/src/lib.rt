@@ -2,5 +2,6 @@
 #![tactic(auto)]
 
 pub mod block;
+mod region;
 #[cfg(test)]
 mod tests;
