@@ -1,9 +1,8 @@
 -- `clear` writes the zeros one by one: so many lie there, and room for the others. Assumes `Logic`.
-use Rattle.std.proofs.Common.{◌≡◌, ℕ, zero, suc, ◌+◌, ◌-◌, ◌≤◌, ◌<◌, ◌^◌, List, [], ◌∷◌, length, replicate, refl, sym, ap, arith, ltb→lt, lit<, nltb→le, w8, w64}
-use Rattle.std.proofs.lemmas.List.{length-replicate}
+use Rattle.std.proofs.Common.{◌≡◌, ℕ, ◌+◌, ◌-◌, ◌≤◌, ◌<◌, ◌^◌, List, [], ◌∷◌, replicate, refl, arith, ltb→lt, lit<, nltb→le, w8, w64}
 use Rattle.std.proofs.VecSteps.Shapes.{after}
 use Rattle.std.proofs.raw_atomic.Walks.{proved}
-use base.Fml.{ftrue, fat, froom}
+use base.Fml.{ftrue, froom}
 use base.Fraction.{full_share}
 use base.Logic.{SProp, ent, id⊢, never}
 use contract.Running.{tables, tables_of}
@@ -22,8 +21,8 @@ use mir.Syntax.{ty_array, ty_int}
 use mir.Val.{Val, vint, vptr, vunit}
 use prog.Wp.{Env, Out, Tables, Wp, WpFn, after_block, after_seq, after_turn, at_return}
 use seplogic.Ra.Ura.{Ura}
-use types.ByLocal.{alloc_all, env, forget_but, free_all, get, give_at, holding, look_at, pass_all, sets, sets_last, take_at, through}
-use types.Kit.{Item, Sq, any_q, runs, ‵, raw, ◌⊛◌, at_ret, prop, ◌$◌, ◌∵◌, !, qed, by, move, keep, drop, use1, use2, split, join, group, regoal, rewrite, fsplit, fjoin, feq_i, suffices, done}
+use types.ByLocal.{alloc_all, env, forget_but, free_all, get, holding, look_at, pass_all, sets, sets_last, through}
+use types.Kit.{Item, Sq, any_q, runs, ‵, ◌⊛◌, at_ret, prop, ◌$◌, ◌∵◌, !, qed, by, move, keep, use1, use2, split, join, group, regoal, rewrite, feq_i, suffices, done}
 use types.Logic.{Logic, sem}
 use types.Run.{Below, again, assigns_last, bin, blocks, branches, enter, exec, first, init, jumps, lit, loops, of_opd, returns, skips, stop, unit_lit}
 use Rattle.masked_mem.specs.Ownership.{bytes_of, region_owns}

@@ -1,4 +1,4 @@
-use Rattle.std.proofs.Common.{◌≡◌, ◌∙◌, ap, length, sym}
+use Rattle.std.proofs.Common.{◌∙◌, ap, length, sym}
 use Rattle.std.proofs.lemmas.List.{length-replicate}
 use Rattle.masked_mem.proofs.Sizes.{shift-is_size}
 use Rattle.masked_mem.proofs.block.Block.new.Goals as goal

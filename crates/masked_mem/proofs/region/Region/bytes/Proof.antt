@@ -7,8 +7,7 @@ use base.Fml.{Lft, Fml, ftrue, fhide, flft}
 use base.Logic.{ent, sep}
 use contract.Monad.{fact}
 use contract.Running.{tables}
-use denote.Array.{Array}
-use denote.Builtin.{RefOf, u8, usize}
+use denote.Builtin.{RefOf, usize}
 use denote.Exit.{yes}
 use denote.Memory.{hidden_shr}
 use denote.Opens.{hide, shr_dup, unhide}
@@ -17,7 +16,7 @@ use denote.RattleType.{RattleType, owns}
 use denote.RawPtr.{RawPtr, InBlock, block_of, block_ptr, count_of, ptr_row_laws}
 use denote.Ref.{ShrRef, shr_vals, shr_Tells}
 use denote.Signature.{plain}
-use denote.Slice.{ShrSlice, elements_shared, slice_val}
+use denote.Slice.{slice_val}
 use denote.Steps.{heard, nothing}
 use denote.Struct.Lending.{in_block_says, lent_out}
 use denote.Struct.Owning.{shape}
@@ -25,7 +24,6 @@ use denote.Struct.Struct.{Struct, Struct-row_laws}
 use denote.Triple.Walked.{Goes-dropped, Stays, ends_at, says, stay_dropped, walk_of}
 use mir.Syntax.{named}
 use mir.Val.{Val}
-use prog.Wp.{Env}
 use seplogic.Ra.Ura.{Ura}
 use types.ByLocal.{alloc_all, env, free_all, get, look_at, pass_all, sets, sets_last, through}
 use types.Kit.{‵, raw, ◌⊛◌, at_ret, ◌$◌, ◌∵◌, !, qed, move, keep, drop, use1, split, join, fsplit, fjoin, feq_i, flt_i, suffices, frame, done}
@@ -36,7 +34,6 @@ use Rattle.masked_mem.specs.Memory.{IsSize}
 use Rattle.masked_mem.specs.contracts.region.Region as C
 use Rattle.masked_mem.specs.contracts.region.Region.bytes as f
 use Rattle.masked_mem.specs.declared.region.Region.{Region}
-use Rattle.masked_mem.proofs.region.Region.TheLaws.{the_row_laws}
 use Rattle.masked_mem.proofs.region.Region.bytes.Statement.{statement}
 use Rattle.masked_mem.proofs.region.Region.bytes.Code as code
 

@@ -2,13 +2,13 @@
 use Rattle.std.proofs.Common.{◌≡◌, ℕ, ◌*◌, ◌≤◌, ◌<◌, ◌^◌, List, [], ◌∷◌, length, refl, sym, ap, ◌∙◌, arith, w64, MutBor}
 use Rattle.std.proofs.VecSteps.Shapes.{after}
 use Rattle.std.proofs.raw_atomic.Walks.{proved}
-use base.Fml.{Lft, GName, Share, Fml, ftrue, fsep, fat, flft}
+use base.Fml.{GName, Fml, ftrue, fsep, flft}
 use base.Fraction.{full_share}
 use base.Logic.{ent, sep, never, id⊢}
 use contract.Monad.{fact}
 use contract.Running.{tables}
 use denote.Array.{Array}
-use denote.Builtin.{RefMutOf, u8, usize}
+use denote.Builtin.{u8, usize}
 use denote.Exit.{no, yes}
 use denote.Follow.{follows}
 use denote.FollowSlice.{Elements, lends_Elements}
@@ -27,10 +27,9 @@ use denote.Struct.Struct.{Struct}
 use denote.Triple.Walked.{Goes-dropped, Goes-spent_ref, Stays, ends_at, says, stay_dropped, walk_of}
 use mir.Syntax.{named}
 use mir.Val.{Val}
-use prog.Wp.{Env}
 use seplogic.Ra.Ura.{Ura}
 use types.ByLocal.{alloc_all, env, free_all, get, look_at, pass_all, sets, sets_last, through}
-use types.Kit.{‵, raw, ◌⊛◌, some, later, at_ret, ◌$◌, ◌∵◌, !, qed, by, move, keep, drop, use1, use2, split, join, fsplit, fsplit3, fjoin, fpack, pick, await, group, rewrite, suffices, frame, done}
+use types.Kit.{‵, raw, ◌⊛◌, some, later, at_ret, ◌$◌, ◌∵◌, !, qed, move, keep, drop, use1, split, join, fsplit, fsplit3, fjoin, fpack, pick, await, group, rewrite, suffices, frame, done}
 use types.Logic.{Logic, sem}
 use types.Part.{agg, look_in, sub, whole}
 use types.Run.{and_then, blocks, enter, exec, first, fld, load, no_more, of_opd, returns, stop}

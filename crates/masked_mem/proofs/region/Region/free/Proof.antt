@@ -23,7 +23,7 @@ use mir.Val.{Val, WT, has_ty, vint, vptr, vunit}
 use prog.Capped.{capped_is}
 use prog.Wp.{Env, WpFn}
 use types.ByLocal.{alloc_all, env, free_all, get, get_in, lands_last, look_at, pass_all, sets}
-use types.Kit.{‵, raw, ◌⊛◌, at_ret, given, later, prop, ◌$◌, ◌∵◌, !, qed, by, move, drop, use1, use2, use3, split, split3, join, learn, rewrite, regoal, fsplit, fsplit3, fjoin, feq_i, await}
+use types.Kit.{‵, raw, ◌⊛◌, at_ret, given, later, prop, ◌$◌, ◌∵◌, !, qed, by, move, drop, use1, use2, use3, split, split3, join, learn, rewrite, regoal, fsplit, fjoin, feq_i, await}
 use types.Part.{sub, whole}
 use types.Run.{and_then, blocks, enter, exec, first, fld, lit, no_more, of_opd, returns, stop, unit_lit}
 use Rattle.masked_mem.specs.Memory.{IsSize}

@@ -1,6 +1,5 @@
 -- `new` asks for words, and clears them as bytes. Assumes `Logic`.
-use Rattle.std.proofs.Common.{T, ◌≡◌, ℕ, ◌*◌, ◌/◌, ◌%◌, ◌≤◌, ◌<◌, ◌^◌, List, [], ◌∷◌, ◌++◌, length, replicate, None, Some, IfSome, refl, sym, ap, subst, ◌∙◌, arith, lit<, w64}
-use Rattle.std.proofs.lemmas.List.{length-replicate}
+use Rattle.std.proofs.Common.{T, ◌≡◌, ◌*◌, ◌/◌, ◌%◌, ◌<◌, ◌^◌, List, [], ◌∷◌, ◌++◌, replicate, None, Some, refl, sym, ap, subst, ◌∙◌, arith, lit<, w64}
 use Rattle.std.proofs.VecSteps.Shapes.{after, arm_body, head}
 use Rattle.std.proofs.alloc.Calls.{Al, Answered, Takes, Takes-gives, Takes-goes, answers, at_takes, seen}
 use Rattle.std.proofs.option.Made.{Some-of, none_of}
@@ -14,7 +13,7 @@ use denote.Builtin.{unit}
 use denote.Param.{bounded, param}
 use denote.Plain.{uint_vals}
 use denote.RattleType.{RattleType, owns}
-use denote.RawPtr.{Ptr, block_ptr, rawptr_vals, room_for}
+use denote.RawPtr.{Ptr, block_ptr, rawptr_vals}
 use denote.Signature.{type_at, types_at}
 use denote.Steps.{heard, nothing, only}
 use denote.Struct.Tuple.{Tuple}
@@ -35,7 +34,7 @@ use types.Match.{in_variant, live, vrt}
 use types.Part.{agg, whole}
 use types.Run.{and_then, blocks, enter, exec, first, fld, lit, no_more, of_opd, returns, stop, switches_on}
 use Rattle.masked_mem.specs.Memory.{IsSize}
-use Rattle.masked_mem.specs.Ownership.{bytes_of, lease_owns, region_owns, words_of}
+use Rattle.masked_mem.specs.Ownership.{bytes_of, region_owns, words_of}
 use Rattle.masked_mem.specs.contracts.region.Lease as lease
 use Rattle.masked_mem.specs.contracts.region.Region as region
 use Rattle.masked_mem.specs.contracts.region.Region.new.{ended, clauses}
