@@ -1,7 +1,7 @@
-//! The memory of a block, behind a pointer. No other file holds one.
+//! The memory of a block, behind a pointer. No other file holds one, and each function here that does is proved by hand.
 ghost use Rattle.std.specs.Prelude.{◌≡◌, ℕ, List, length, replicate, IfSome};
-ghost use Rattle.std.specs.Borrow.{Array, full_share, sem, u8};
-ghost use Rattle.std.specs.Ptr.{Ptr, lies_at, room_for};
+ghost use Rattle.std.specs.Borrow.{sem};
+ghost use Rattle.std.specs.Ptr.{Ptr, room_for};
 ghost use Rattle.masked_mem.specs.Memory.{IsSize};
 ghost use Rattle.masked_mem.specs.Ownership.{bytes_of, region_owns, region_shares, lease_owns};
 
@@ -75,6 +75,7 @@ impl Region {
         unsafe { alloc.deallocate(at, size, WORD) }
     }
 
+    /// The bytes, all of them.
     pub(crate) fn bytes(&self, size: usize) -> &[u8]
         requires { (size ≡ length self.now.bytes) × IsSize size }
         ensures { result.now ≡ self.now.bytes }
@@ -82,6 +83,7 @@ impl Region {
         unsafe { slice::from_raw_parts(self.at, size) }
     }
 
+    /// The same, to be written.
     pub(crate) fn bytes_mut(&mut self, size: usize) -> &mut [u8]
         requires { (size ≡ length self.old.bytes) × IsSize size }
         ensures* writes_back { sem 𝓛 (LendsBytes self.entry result) }
