@@ -1,3 +1,6 @@
+mod Bytes
 mod Masks
 pub mod Sizes
 pub mod Lengths
+mod Values
+mod Walks

@@ -2,6 +2,7 @@
 ghost use Rattle.std.specs.Prelude.{◌≡◌, ◌≤◌, ◌<◌, ◌+◌, ◌%◌, ◌^◌, length, nat_le, replicate, IfOk};
 ghost use Rattle.masked_mem.specs.Memory.{IsSize, load1, load2, load4, store1, store2, store4, bytes_at, put_at, filled_at, copied_at};
 
+use crate::region::{Lease, Region};
 use qv_base::NoMemory;
 use std::alloc::Global;
 use std::marker::Model;
@@ -12,20 +13,34 @@ use std::marker::Model;
 /// round it down to a multiple of their width, so they never refuse. Words and half words have their
 /// lowest byte first. The other calls take a range of bytes as it stands, and want it within the block:
 /// [`Block::fits`] tells whether it is.
-#[derive(Drop)]
 pub struct Block {
-    bytes: Vec<u8>,
+    size: usize,
+    region: Region,
+    lease: Lease<Global>,
+    alloc: Global,
 }
 
 impl Model for Block {
-    ghost use Rattle.std.specs.Prelude.{List, ℕ, length};
+    ghost use Rattle.std.specs.Prelude.{◌≡◌, List, ℕ, length};
     ghost use Rattle.masked_mem.specs.Memory.{IsSize};
 
     ghost Value = { List ℕ };
 
-    ghost view = { λ b. b.bytes.items };
+    ghost view = { λ b. b.region.bytes };
 
-    ghost invariant = { λ b. IsSize (length b.bytes.items) };
+    ghost invariant = { λ b. IsSize b.size × (b.size ≡ length b.region.bytes) × (b.lease.alloc ≡ b.alloc) × (b.lease.at ≡ b.region.at) × (b.lease.size ≡ b.size) };
+}
+
+impl Drop for Block {
+    fn drop(self) {
+        let Block {
+            size,
+            region,
+            lease,
+            alloc,
+        } = self;
+        region.free(lease, &alloc, size);
+    }
 }
 
 impl Block {
@@ -40,9 +55,15 @@ impl Block {
         ensures { IfOk result (λ block. block ≡ replicate (2 ^ log2) 0) }
     {
         let size = 1usize << log2;
-        let mut bytes = Vec::with_capacity(alloc, size)?;
-        bytes.resize(size, 0)?;
-        Ok(Block { bytes })
+        let Some((region, lease)) = Region::new(&alloc, size) else {
+            return Err(NoMemory);
+        };
+        Ok(Block {
+            size,
+            region,
+            lease,
+            alloc,
+        })
     }
 
     /// How many bytes it has.
@@ -50,7 +71,14 @@ impl Block {
         ensures size { result ≡ length self.now }
         ensures is_size { IsSize (length self.now) }
     {
-        self.bytes.len() as u32
+        self.size as u32
+    }
+
+    // The bytes.
+    fn bytes(&self) -> &[u8]
+        ensures { result.now ≡ self.now }
+    {
+        self.region.bytes(self.size)
     }
 
     // An address cut to the block by its mask.
@@ -59,14 +87,14 @@ impl Block {
         ensures size { IsSize (length self.now) }
         ensures within { result < length self.now }
     {
-        at as usize & (self.bytes.len() - 1)
+        at as usize & (self.size - 1)
     }
 
     /// The byte at an address.
     pub fn load1(&self, at: u32) -> u32
         ensures { result ≡ load1 self.now at }
     {
-        u32::from(self.bytes[self.wrap(at)])
+        u32::from(self.bytes()[self.wrap(at)])
     }
 
     /// The half word at an address.
@@ -75,7 +103,7 @@ impl Block {
     {
         let wrapped = self.wrap(at);
         let place = wrapped - wrapped % 2;
-        let two = &self.bytes[place..place + 2];
+        let two = &self.bytes()[place..place + 2];
         u32::from(u16::from_le_bytes([two[0], two[1]]))
     }
 
@@ -85,7 +113,7 @@ impl Block {
     {
         let wrapped = self.wrap(at);
         let place = wrapped - wrapped % 4;
-        let four = &self.bytes[place..place + 4];
+        let four = &self.bytes()[place..place + 4];
         u32::from_le_bytes([four[0], four[1], four[2], four[3]])
     }
 
@@ -94,7 +122,7 @@ impl Block {
         ensures { self.new ≡ store1 self.old at v }
     {
         let place = self.wrap(at);
-        self.bytes[place] = (v % 256) as u8;
+        self.region.bytes_mut(self.size)[place] = (v % 256) as u8;
     }
 
     /// Stores the low half word of `v` at an address.
@@ -104,7 +132,7 @@ impl Block {
         let wrapped = self.wrap(at);
         let place = wrapped - wrapped % 2;
         let half = (v % 65536) as u16;
-        self.bytes[place..place + 2].copy_from_slice(&half.to_le_bytes());
+        self.region.bytes_mut(self.size)[place..place + 2].copy_from_slice(&half.to_le_bytes());
     }
 
     /// Stores the word `v` at an address.
@@ -113,14 +141,14 @@ impl Block {
     {
         let wrapped = self.wrap(at);
         let place = wrapped - wrapped % 4;
-        self.bytes[place..place + 4].copy_from_slice(&v.to_le_bytes());
+        self.region.bytes_mut(self.size)[place..place + 4].copy_from_slice(&v.to_le_bytes());
     }
 
     /// Whether `len` bytes from `at` on lie within the block.
     pub fn fits(&self, at: u32, len: u32) -> bool
         ensures { result ≡ nat_le (at + len) (length self.now) }
     {
-        u64::from(at) + u64::from(len) <= self.bytes.len() as u64
+        u64::from(at) + u64::from(len) <= self.size as u64
     }
 
     /// The `len` bytes from `at` on.
@@ -129,7 +157,7 @@ impl Block {
         ensures { result.now ≡ bytes_at self.now at len }
     {
         let start = at as usize;
-        &self.bytes[start..start + len as usize]
+        &self.bytes()[start..start + len as usize]
     }
 
     /// Puts these bytes from `at` on.
@@ -138,7 +166,7 @@ impl Block {
         ensures { self.new ≡ put_at self.old at bytes.now }
     {
         let start = at as usize;
-        self.bytes[start..start + bytes.len()].copy_from_slice(bytes);
+        self.region.bytes_mut(self.size)[start..start + bytes.len()].copy_from_slice(bytes);
     }
 
     /// Puts `len` times the byte `v` from `at` on.
@@ -147,7 +175,7 @@ impl Block {
         ensures { self.new ≡ filled_at self.old at len v }
     {
         let start = at as usize;
-        self.bytes[start..start + len as usize].fill(v);
+        self.region.bytes_mut(self.size)[start..start + len as usize].fill(v);
     }
 
     /// Copies `len` bytes from `from` to `to`, as if all of them were read first.
@@ -157,7 +185,8 @@ impl Block {
         ensures { self.new ≡ copied_at self.old to from len }
     {
         let start = from as usize;
-        self.bytes
+        self.region
+            .bytes_mut(self.size)
             .copy_within(start..start + len as usize, to as usize);
     }
 }

@@ -19,15 +19,17 @@ const LOADS: [(u32, u32, u32, u32); 9] = [
 ];
 
 // A width and an address, and the word that holds it after a store.
-const STORES: [(u32, u32, u32); 8] = [
+const STORES: [(u32, u32, u32); 10] = [
     (1, 0, 0x0302_01dd),
     (1, 3, 0xdd02_0100),
+    (1, SIZE, 0x0302_01dd),
     (2, 1, 0x0302_ccdd),
     (2, SIZE + 2, 0xccdd_0100),
     (4, 3, 0xaabb_ccdd),
     (1, u32::MAX, 0xdd3e_3d3c),
     (2, u32::MAX, 0xccdd_3d3c),
     (4, SIZE - 1, 0xaabb_ccdd),
+    (4, u32::MAX, 0xaabb_ccdd),
 ];
 
 // An address and a length, and whether they fit.
@@ -96,6 +98,18 @@ fn changes_ranges(rt: HostRuntime) -> Result<(), Fail> {
     assert!(rt; begins_with(&block, &[1, 2, 3, 4, 2, 3, 4, 0]));
     block.fill(1, 2, 9);
     assert!(rt; begins_with(&block, &[1, 9, 9, 4, 2, 3, 4, 0]));
+    Ok(())
+}
+
+#[test]
+fn copies_a_range_over_itself(rt: HostRuntime) -> Result<(), Fail> {
+    let mut block = Block::new(rt.alloc(), 6)?;
+    block.put(0, &[1, 2, 3, 4]);
+    block.put(SIZE - 5, &[5, 6, 7, 8, 9]);
+    block.copy(1, 0, SIZE - 1);
+    assert!(rt; begins_with(&block, &[1, 1, 2, 3, 4, 0, 0, 0]));
+    assert!(rt; block.load4(SIZE - 4) == 0x0807_0605);
+    assert!(rt; block.slice(SIZE, 0).is_empty());
     Ok(())
 }
 

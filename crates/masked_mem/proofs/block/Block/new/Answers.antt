@@ -1,10 +1,12 @@
-use Rattle.std.proofs.Common.{rules, ◌≡◌, ◌^◌, length, ℕ, sym, subst}
-use Rattle.masked_mem.specs.Memory.{IsSize}
-use Rattle.masked_mem.proofs.Sizes.{power-is_size}
+use Rattle.std.proofs.Common.{◌∙◌, ap, length, sym}
+use Rattle.std.proofs.lemmas.List.{length-replicate}
+use Rattle.masked_mem.proofs.Sizes.{shift-is_size}
 use Rattle.masked_mem.proofs.block.Block.new.Goals as goal
+
+pub new-requires : goal.new-requires
+new-requires c = shift-is_size c.args.log2 c.requires.low c.requires.high
 
 pub invariant_of-result : goal.invariant_of-result
 invariant_of-result c =
-    let P : ℕ → Type 0 = λ n. IsSize n in
-    let len : length c.resize.new.self.items ≡ 2 ^ c.args.log2 = search rules in
-    subst P (sym len) (power-is_size c.args.log2 c.requires.low c.requires.high)
+    let told = c.in-Some.ensures in
+    (shift-is_size c.args.log2 c.requires.low c.requires.high, sym (ap length told.0 ∙ length-replicate _ 0), told.1, told.2, told.3)
