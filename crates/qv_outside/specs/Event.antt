@@ -1,6 +1,6 @@
 -- Trap calls and their replies as data, and what they show outside.
 use Rattle.std.specs.Prelude.{ℕ, ◌≤◌, ◌<◌, ◌^◌, ◌==◌, Bool, nat_lt, List, [], ◌∷◌, ◌++◌, length, if◌then◌else◌, All}
-use Rattle.std.specs.List.{filter, flat_map}
+use Rattle.std.specs.List.{filter, flat_map, sum_by}
 
 -- a trap call: the trap's number, its Int arguments, the bytes of its Text and InBytes arguments, and
 -- the length that its OutBytes argument asks for. No address is in it
@@ -38,6 +38,10 @@ is_host e = nat_lt 1 e.number
 
 abbrev pub host_events : List Event → List Event
 host_events es = filter is_host es
+
+-- the bytes of the texts of these events
+abbrev pub text_bytes : List Event → ℕ
+text_bytes es = sum_by (λ e. sum_by length e.inputs) es
 
 -- print or error with this text
 abbrev pub text_event : ℕ → List ℕ → Event

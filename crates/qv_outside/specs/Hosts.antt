@@ -20,6 +20,10 @@ Table = map.FinMap nat_cmp Sig
 abbrev pub sig_of : Table → ℕ → Option Sig
 sig_of table number = map.get table number
 
+-- the first entry of a number counts
+abbrev pub table_in : List (ℕ × Sig) → Table
+table_in sigs = map.from_entries sigs
+
 -- the kinds of the arguments
 abbrev pub kinds_of : Sig → List Kind
 kinds_of s = take s.count s.kinds

@@ -11,3 +11,7 @@ pub mod MemSink
 pub mod Signature
 pub mod Hosts
 pub mod FixedHost
+pub mod Script
+pub mod KeptCall
+pub mod CallLog
+pub mod ScriptHost

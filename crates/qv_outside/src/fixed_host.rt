@@ -3,6 +3,7 @@ ghost use Rattle.std.specs.Prelude.{◌≡◌, ◌≤◌, length, None, Ok, IfOk
 
 use crate::host::{Host, HostFailed, TrapCall, TrapReply};
 use crate::signature::Sig;
+use crate::sigs::find;
 
 /// A host that always replies one word and no bytes. It never fails and tells nothing.
 #[derive(Drop)]
@@ -12,7 +13,8 @@ pub struct FixedHost {
 }
 
 impl FixedHost {
-    ghost use Rattle.qv_outside.specs.FixedHost.{table_in, table_of, word_of};
+    ghost use Rattle.qv_outside.specs.FixedHost.{table_of, word_of};
+    ghost use Rattle.qv_outside.specs.Hosts.{table_in};
 
     /// A host that answers the traps of these signatures by `word`. The first entry of a number counts.
     pub fn new(sigs: Vec<(u32, Sig)>, word: u32) -> FixedHost
@@ -42,12 +44,7 @@ impl Host for FixedHost {
     fn sig(&self, number: u32) -> Option<Sig>
         ensures { result ≡ sig_of (table_of self.now) number }
     {
-        for (key, sig) in &self.sigs {
-            if *key == number {
-                return Some(*sig);
-            }
-        }
-        None
+        find(&self.sigs, number)
     }
 
     /// Replies the word. Neither the host nor `out` changes.

@@ -18,7 +18,7 @@ pub fn argument(block: &Block, at: u32, place: u32) -> u32
 }
 
 /// Fills the list with the words of the arguments that stand from `at` on.
-pub fn load_arguments(block: &Block, at: u32, words: &mut [u32])
+pub(crate) fn load_arguments(block: &Block, at: u32, words: &mut [u32])
     requires { length words.old < 2 ^ 32 }
     ensures { words.new ≡ arguments block.now at (length words.old) }
 {
@@ -57,7 +57,7 @@ fn nul_in(bytes: &[u8]) -> Option<usize>
 }
 
 /// The `len` bytes from `at` on, or none where they leave the block.
-pub fn range(block: &Block, at: u32, len: u32) -> Option<&[u8]>
+pub(crate) fn range(block: &Block, at: u32, len: u32) -> Option<&[u8]>
     ensures { option_copied result ≡ range_at block.now at len }
 {
     if block.fits(at, len) {
@@ -83,7 +83,7 @@ pub fn text_within(block: &Block, at: u32, len: u32) -> Option<&[u8]>
 }
 
 /// The bytes that an argument of this kind and word reaches, or none where they leave the block.
-pub fn reach<'b>(block: &'b Block, words: &[u32], kind: Kind, word: u32) -> Option<&'b [u8]>
+pub(crate) fn reach<'b>(block: &'b Block, words: &[u32], kind: Kind, word: u32) -> Option<&'b [u8]>
     requires { IsPlaced (length words.now) kind }
     ensures { option_copied result ≡ reached block.now words.now kind word }
 {

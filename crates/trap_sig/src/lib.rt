@@ -5,4 +5,6 @@
 pub mod arguments;
 pub mod gather;
 mod inputs;
+#[cfg(test)]
+mod tests;
 mod words;
