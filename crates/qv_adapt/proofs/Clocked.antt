@@ -1,5 +1,5 @@
 -- What a table with the clock's trap has.
-use Rattle.std.proofs.Common.{◌≡◌, ℕ, ◌==◌, true, false, cond, List, Option, Some, ◌≢◌, refl, ap, sym, subst, ◌∙◌, replicate, arith}
+use Rattle.std.proofs.Common.{◌≡◌, ℕ, ◌==◌, false, cond, List, Some, ◌≢◌, refl, ap, sym, subst, ◌∙◌, replicate, arith}
 use Rattle.std.specs.Prelude.{IsTrue}
 use Rattle.std.specs.Cmp.{nat_cmp_total, unsigned_tied}
 use Rattle.std.specs.FinMap.{get-insert}

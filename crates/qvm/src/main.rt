@@ -1,7 +1,8 @@
 // The program qvm: the tool over the machine's files, streams and clock.
 #![tactic(auto)]
 
-ghost use Rattle.std.specs.Prelude.{◌<◌, ◌≤◌, ◌^◌, length};
+ghost use Rattle.std.specs.Prelude.{◌≡◌, ◌+◌, ◌<◌, ◌≤◌, ◌^◌, drop, length, map, string_bytes, take, IfOk, OnOk};
+ghost use Rattle.qv_tool.specs.Own.{own_place};
 
 use qv_adapt::disk_files::DiskFiles;
 use qv_adapt::real_clock_host::RealClockHost;
@@ -92,9 +93,12 @@ fn run(rt: &HostRuntime, mut words: Vec<String>) -> Result<Status, NoMemory> {
 }
 
 /// Takes the words from the first `--` on away, and gives those behind it.
-fn split_own(alloc: Global, words: &mut Vec<String>) -> Result<Vec<String>, AllocError> {
+fn split_own(alloc: Global, words: &mut Vec<String>) -> Result<Vec<String>, AllocError>
+    ensures before { OnOk result (words.new.items ≡ take (own_place (map string_bytes words.old.items)) words.old.items) }
+    ensures behind { IfOk result (λ own. own.items ≡ drop (own_place (map string_bytes words.old.items) + 1) words.old.items) }
+{
     let place = own_from(words);
-    if place == words.len() {
+    if place >= words.len() {
         return Ok(Vec::new(alloc));
     }
     let own = words.split_off(place + 1)?;

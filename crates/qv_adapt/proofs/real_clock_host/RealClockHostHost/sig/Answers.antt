@@ -1,4 +1,4 @@
-use Rattle.std.proofs.Common.{◌≡◌, ℕ, Option, Some, ap, sym, subst, ◌∙◌}
+use Rattle.std.proofs.Common.{Some, ap, sym, ◌∙◌}
 use Rattle.qv_adapt.specs.Clock.{with_clock}
 use Rattle.qv_adapt.proofs.Clocked.{at_clock, elsewhere, is_clock_sig}
 use Rattle.qv_outside.specs.Hosts.{sig_of}
