@@ -11,3 +11,4 @@ pub mod Quiet
 pub mod Answers
 pub mod Work
 pub mod Said
+pub mod Own

@@ -4,6 +4,7 @@
 mod damaged;
 mod gather;
 mod list;
+pub mod own;
 mod play;
 mod q3asm;
 mod qall;

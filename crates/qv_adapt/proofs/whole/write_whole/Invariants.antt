@@ -1,6 +1,6 @@
 use Rattle.std.proofs.Common.{ℕ, List, Option, length}
 use Rattle.std.specs.Io.KnownBytes.{Appends}
-use Rattle.qvm.proofs.whole.write_whole.Given as goal
+use Rattle.qv_adapt.proofs.whole.write_whole.Given as goal
 
 abbrev pub invariant-loop-rest : goal.invariant-loop-rest
 invariant-loop-rest g l = (end : Option (List ℕ)) → Appends (g.W.Write.contents l.writer) end l.rest → Appends (g.W.Write.contents l.initial.writer) end l.initial.rest

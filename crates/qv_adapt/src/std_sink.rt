@@ -2,7 +2,7 @@
 ghost use Rattle.std.specs.Prelude.{◌≡◌, ◌≤◌, None, OnErr, OnOk};
 ghost use Rattle.std.specs.Io.KnownBytes.{Appends};
 ghost use Rattle.qv_outside.specs.Causes.{Rose};
-ghost use Rattle.qvm.specs.Faults.{faults_after};
+ghost use Rattle.qv_adapt.specs.Faults.{faults_after};
 
 use crate::whole::write_whole;
 use qv_outside::sink::{Sink, SinkFailed};
@@ -45,5 +45,19 @@ impl<W: Write> Sink for StdSink<W> {
                 Err(SinkFailed)
             }
         }
+    }
+}
+
+#[cfg(test)]
+mod tests {
+    use super::*;
+    use std::test::Fail;
+
+    #[test]
+    fn puts_behind_what_is_there(rt: HostRuntime) -> Result<(), Fail> {
+        let mut sink = StdSink::new(b"a".to_vec(rt.alloc())?);
+        assert!(rt; sink.put(b"bc").is_ok());
+        assert!(rt; sink.writer.as_slice() == b"abc".as_slice());
+        Ok(())
     }
 }

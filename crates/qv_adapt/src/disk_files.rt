@@ -1,7 +1,7 @@
 // Files of the machine.
 ghost use Rattle.std.specs.Prelude.{◌≡◌, ◌≤◌, None, IsErrOf};
 ghost use Rattle.qv_outside.specs.Causes.{Rose};
-ghost use Rattle.qvm.specs.Faults.{faults_after, faults_after_read};
+ghost use Rattle.qv_adapt.specs.Faults.{faults_after, faults_after_read};
 
 use crate::whole::{read_whole, write_whole};
 use qv_outside::files::{FileFault, Files, WriteFault};
@@ -90,4 +90,24 @@ fn read_file<R: rt::Files>(rt: &R, alloc: Global, name: &str) -> Result<Vec<u8>,
 fn write_file<R: rt::Files>(rt: &R, name: &str, bytes: &[u8]) -> io::Result<()> {
     let mut file = fs::create(rt, name)?;
     write_whole(&mut file, bytes)
+}
+
+#[cfg(test)]
+mod tests {
+    use super::*;
+    use std::test::Fail;
+
+    #[test]
+    fn reads_and_writes(rt: HostRuntime) -> Result<(), Fail> {
+        let alloc = rt.alloc();
+        let mut files = DiskFiles::new(&rt);
+        assert!(rt; files.write(alloc, "/dev/null", b"ab").is_ok());
+        assert!(rt; files.write(alloc, "/dev/full", b"ab") == Err(WriteFault::Failed));
+        assert!(rt; files.read(alloc, "/dev/null")?.is_empty());
+        let absent = files.read(alloc, "/dev/none of this name").err();
+        assert!(rt; absent == Some(FileFault::Absent));
+        let through_a_file = files.read(alloc, "/dev/null/x").err();
+        assert!(rt; through_a_file == Some(FileFault::Failed));
+        Ok(())
+    }
 }
