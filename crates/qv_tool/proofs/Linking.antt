@@ -95,11 +95,3 @@ module _ (c : Command) (image list : List ℕ) (asked : task_of c ≡ Some (Asse
       let V : FileMap → Type 0 = λ held. verdict held (Some c) ≡ of_list held image list (names_in source.items) in
       let G : FileMap → Type 0 = λ held. ReadGives held list (Ok source) in
       told_before A mid old (sym (read_stays old mid list (Ok source) reads)) (along_both V G A old (λ held v g. asks held names v g.0 e) (list_goes old mid reads) (read_gives old mid list (Ok source) reads))
-
-  -- it is at fault
-  pub bad_list_works : (around : Surroundings) (before after : Keeper) (number : ℕ) (result : Result Report Wanting) → Reads before.held after.held list (Ok source) → names_in source.items ≡ Err number → IfOk result (λ report. Says Assembly (line (fault_text list number BadList)) report) →
-      Works (Some c) (world before around) (world after around) result
-  bad_list_works around before after number result reads e says =
-      refused_works (Some c) around before after (Unlinked list (record { file = 0; line = number; kind = BadList })) Assembly (line (fault_text list number BadList)) result
-      (along (λ held. verdict held (Some c) ≡ of_list held image list (names_in source.items)) (λ held. verdict held (Some c) ≡ Unlinked list (record { file = 0; line = number; kind = BadList })) before.held (λ held h. h ∙ ap (of_list held image list) e) (list_goes before.held after.held reads))
-      (read_stays before.held after.held list (Ok source) reads) refl refl (served_by c (AssembleList image list) asked) says

@@ -39,18 +39,6 @@ module _ (c : Command) (around : Surroundings) (before after : Keeper) where
   abbrev VerdictIs : Verdict → Type 0
   VerdictIs v = IfSome before.held (λ held. verdict held (Some c) ≡ v)
 
-  -- a unit is of a form that isn't served
-  pub unready_works : (task : Task) (result : Result Report Wanting) → task_of c ≡ Some task → ReadsUnit task → VerdictIs Unready → after.held ≡ before.held → IfOk result (λ report. Says NotYet (line (codes "not yet")) report) → Comes result
-  unready_works task result asked reads is same says =
-      let R : Option Task → Type 0 = λ t. IfSome t ReadsUnit in
-      refused_works (Some c) around before after Unready NotYet (line (codes "not yet")) result is same refl refl (subst R (sym asked) reads) says
-
-  -- so is the command
-  pub unserved_works : (result : Result Report Wanting) → task_of c ≡ None → after.held ≡ before.held → IfOk result (λ report. Says NotYet (line (codes "not yet")) report) → Comes result
-  unserved_works result none same says =
-      let R : Option Task → Type 0 = λ t. IfSome t ReadsUnit in
-      refused_works (Some c) around before after Unready NotYet (line (codes "not yet")) result (if_told (λ held. verdict held (Some c) ≡ Unready) before.held (λ held. ap (of_task held) none)) same refl refl (subst R (sym none) tt) says
-
   -- an image has a fault
   module _ (served : IsServed (Some c)) (go : Result Qvm ImageFault → Verdict) (go_damaged : (fault : ImageFault) → go (Err fault) ≡ Damaged fault) (read : Result Qvm ImageFault) (is : VerdictIs (go read)) (same : after.held ≡ before.held) where
     damaged : (fault : ImageFault) (report : Report) → read ≡ Err fault → Says Image (line (codes "image: " ++ damage_text fault)) report → Comes (Ok report)
