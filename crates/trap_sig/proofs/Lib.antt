@@ -1,5 +1,6 @@
 mod First
 mod Args
+pub mod Asked
 mod Ints
 mod Lending
 mod Shape
