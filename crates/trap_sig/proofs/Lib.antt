@@ -1,6 +1,5 @@
 mod First
 mod Args
-pub mod Asked
 mod Ints
 mod Lending
 mod Shape
