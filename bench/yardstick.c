@@ -1,6 +1,6 @@
 /* A plain interpreter of game modules' images, written for speed alone: the yardstick beside which the
    proved machine is measured. It has the same instructions, the same mask on each access and the same
-   tests, but no traps.
+   tests. Of the traps it has 0 (print) and 101 (memcpy); every other one stops it.
 
    usage: yardstick N IMAGE [WORD]
 
@@ -10,6 +10,7 @@
 #include <stdio.h>
 #include <stdlib.h>
 #include <string.h>
+#include <unistd.h>
 
 enum {
     UNDEF, IGNORE, BREAK, ENTER, LEAVE, CALL, PUSH, POP, CONST, LOCAL, JUMP,
@@ -117,6 +118,30 @@ static void store2(uint8_t *at, uint32_t word)
     next = (to); \
     break
 
+/* Serves trap k, which is called where the program stack stands at p: gives the end of the run, or no line and what
+   the trap replies. Not inlined: the loop of plain instructions stays small. */
+__attribute__((noinline)) static struct end serve(const struct module *module, uint32_t p, uint32_t k)
+{
+    uint8_t *const block = module->block;
+    const uint32_t size = module->size, mask = size - 1;
+    const uint32_t to = load4(AT(p + 8, 4)), from = load4(AT(p + 12, 4)), len = load4(AT(p + 16, 4));
+    const uint8_t *nul;
+
+    switch (k) {
+    case 0:
+        nul = to < size ? memchr(block + to, 0, size - to) : NULL;
+        if (nul == NULL) END("stopped: trap 0 argument 0 outside", 0);
+        if (write(1, block + to, (size_t)(nul - (block + to))) != nul - (block + to)) END("write fault: out", 0);
+        END(NULL, 0);
+    case 101:
+        if ((uint64_t)to + len > size) END("stopped: trap 101 argument 0 outside", 0);
+        if ((uint64_t)from + len > size) END("stopped: trap 101 argument 1 outside", 0);
+        memmove(block + to, block + from, len);
+        END(NULL, to);
+    default: END("stopped: unknown trap %u", k);
+    }
+}
+
 static struct end run(const struct module *module, uint64_t steps)
 {
     const struct instr *const code = module->code;
@@ -146,7 +171,12 @@ static struct end run(const struct module *module, uint64_t steps)
         case CALL:
             TAKE_ONE;
             store4(AT(p, 4), next);
-            if ((int32_t)t < 0) END("stopped: unknown trap %u", ~t);
+            if ((int32_t)t < 0) {
+                store4(AT(p + 4, 4), ~t);
+                const struct end end = serve(module, p, ~t);
+                if (end.line != NULL) return end;
+                GIVE((uint32_t)end.word);
+            }
             GO(t);
         case PUSH: GIVE(0);
         case POP: WANT(1); depth--; break;

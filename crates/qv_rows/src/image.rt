@@ -1,7 +1,7 @@
 // Files of images, also of such as are no images.
 use crate::content::hex;
 use crate::fault::StepFault;
-use crate::words::number;
+use crate::words::{number, word};
 use qv_ops::op::{number_of, op_named, width};
 use std::alloc::Global;
 
@@ -92,14 +92,6 @@ impl Draft {
         file.extend_from_slice(&self.data_part)?;
         file.extend_from_slice(&self.lit)?;
         Ok(file)
-    }
-}
-
-/// A number of 32 bits, with or without a sign.
-fn word(text: &str) -> Result<u32, StepFault> {
-    match text.strip_prefix('-') {
-        Some(digits) => Ok(number(digits)?.wrapping_neg()),
-        None => number(text),
     }
 }
 

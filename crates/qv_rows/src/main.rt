@@ -6,7 +6,7 @@
 //!
 //! | Line | Does |
 //! |---|---|
-//! | `= title` | begins a row: there is no file, and nothing is to fail |
+//! | `= title` | begins a row: there is no file, the host has no trap, and nothing is to fail |
 //! | `file NAME` | makes a file of the content lines, each with a line feed |
 //! | `text NAME TEXT` | makes a file of one word, with no line feed behind |
 //! | `bytes NAME` | makes a file of the bytes that the content lines write in hexadecimal |
@@ -17,6 +17,11 @@
 //! | `fail call K` | lets the K-th call of the files fail in the next run, from 0 |
 //! | `fail put K` | lets the K-th put of the next run's `err` fail, from 0 |
 //! | `room N` | gives the next run's `err` room for N bytes |
+//! | `fail out K` | lets the K-th put of the next run's `out` fail, from 0 |
+//! | `outroom N` | gives the next run's `out` room for N bytes |
+//! | `trap NUMBER KIND..` | lets the row's host answer this trap, whose arguments have these kinds: `int`, `text`, or `in:K` or `out:K`, of as many bytes as the argument at place K says, from 0 |
+//! | `reply WORD..` | gives the host's next replies in the next run, each a word, and its bytes behind a colon where it has any, as `0:6869` |
+//! | `fail ask K` | lets the K-th call of the host fail in the next run, from 0 |
 //! | `steady` | makes the next run over files of the kind that never fails |
 //! | `$ WORDS` | runs the tool by these words, and by none where `$` stands alone |
 //! | `show NAME` | prints a file's lines |
@@ -29,8 +34,9 @@
 //! bytes, and another character behind `\` is itself. In every line `[[N text]]` stands for the text N times.
 //!
 //! A run answers the status's number with each line that `err` took, then the lines that `out` took behind
-//! `>`, then the name and the length of each file that is new or has changed. Where `err`, `out` or a file
-//! that is shown doesn't end with a line feed, a line says so. The files stay for the row's next run.
+//! `>`, then how many calls the host was asked where there were any, then the name and the length of each file
+//! that is new or has changed. Where `err`, `out` or a file that is shown doesn't end with a line feed, a line
+//! says so. The files and the host's traps stay for the row's next run.
 //!
 //! The functions here are proved to be safe and to end. What they print no clause says: the gate compares it
 //! with the file `stdout`.
@@ -39,6 +45,7 @@
 mod content;
 mod fault;
 mod image;
+mod plan;
 mod row;
 mod run;
 mod script;

@@ -1,7 +1,8 @@
 // Rows: what stands between the runs of a row, and what the script's lines do.
 use crate::content::{changed, written};
 use crate::fault::StepFault;
-use crate::run::{Outcome, Plan, Shelf, run};
+use crate::plan::{Plan, trap};
+use crate::run::{Outcome, Shelf, Traps, run};
 use crate::script::Step;
 use crate::transcript::Transcript;
 use crate::words::{repeated, words};
@@ -15,16 +16,18 @@ use std::mem;
 pub struct Row {
     alloc: Global,
     shelf: Shelf,
+    traps: Traps,
     plan: Plan,
     transcript: Transcript,
 }
 
 impl Row {
-    /// No files, and nothing to fail.
+    /// No files, no traps, and nothing to fail.
     pub fn new(alloc: Global) -> Row {
         Row {
             alloc,
             shelf: BTreeMap::new(alloc),
+            traps: Vec::new(alloc),
             plan: Plan::new(alloc),
             transcript: Transcript::new(alloc),
         }
@@ -52,6 +55,7 @@ impl Row {
         }
         if line.starts_with("= ") {
             self.shelf = BTreeMap::new(self.alloc);
+            self.traps = Vec::new(self.alloc);
             self.plan = Plan::new(self.alloc);
             return Ok(());
         }
@@ -67,7 +71,10 @@ impl Row {
         match verb.as_str() {
             "$" => self.run(args),
             "show" | "hex" => self.print(verb, args),
-            "steady" | "room" | "fail" => self.plan.read(verb, args),
+            "trap" => Ok(self.traps.push(trap(self.alloc, args)?)?),
+            "steady" | "room" | "outroom" | "reply" | "fail" => self
+                .plan
+                .read(self.alloc, verb, args),
             _ => self.make(verb, args, content),
         }
     }
@@ -116,7 +123,7 @@ impl Row {
     /// Runs the tool by these words, and prints what comes of it.
     fn run(&mut self, words: &[String]) -> Result<(), StepFault> {
         let plan = mem::replace(&mut self.plan, Plan::new(self.alloc));
-        let outcome = run(self.alloc, words, &self.shelf, &plan)?;
+        let outcome = run(self.alloc, words, &self.shelf, &self.traps, plan)?;
         self.tell(&outcome)?;
         self.shelf = outcome.shelf;
         Ok(())
@@ -134,6 +141,11 @@ impl Row {
             self.transcript.answer(&mark, outcome.err.bytes())?;
         }
         self.transcript.answer("  > ", outcome.out.bytes())?;
+        if outcome.asked > 0 {
+            let asked = outcome.asked;
+            let line = format!(in alloc; "asked {asked}\n")?;
+            self.transcript.answer("  ", line.as_bytes())?;
+        }
         for (name, bytes) in &outcome.shelf {
             if self.shelf.get(name.as_str()) != Some(bytes) {
                 let len = bytes.len();

@@ -1,12 +1,13 @@
 // Runs of the tool.
-use crate::fault::StepFault;
-use crate::words::number;
+use crate::plan::Plan;
 use qv_base::NoMemory;
 use qv_base::name::Name;
 use qv_outside::files::{FileFault, Files};
 use qv_outside::fixed_host::FixedHost;
 use qv_outside::mem_files::MemFiles;
 use qv_outside::mem_sink::MemSink;
+use qv_outside::script_host::ScriptHost;
+use qv_outside::signature::Sig;
 use qv_outside::steady_files::SteadyFiles;
 use qv_tool::status::status_code;
 use qv_tool::tool::tool;
@@ -14,54 +15,14 @@ use std::alloc::Global;
 use std::collections::BTreeMap;
 use std::path::Path;
 
-// Room for each line of a run.
-const ROOM: u32 = 65_536;
+// Room for the calls of a host, and for the bytes of their texts.
+const ROOM: u32 = 4_096;
 
 /// Files by their names.
 pub type Shelf = BTreeMap<String, Vec<u8>>;
 
-/// What is to fail in the next run.
-#[derive(Drop)]
-pub struct Plan {
-    /// The calls of the files that fail, from 0.
-    pub calls: Vec<u64>,
-    /// The puts of `err` that fail, from 0.
-    pub puts: Vec<u64>,
-    /// How many bytes `err` takes.
-    pub room: u32,
-    /// Whether the files are of the kind that never fails.
-    pub is_steady: bool,
-}
-
-impl Plan {
-    /// Nothing fails.
-    pub fn new(alloc: Global) -> Plan {
-        Plan {
-            calls: Vec::new(alloc),
-            puts: Vec::new(alloc),
-            room: ROOM,
-            is_steady: false,
-        }
-    }
-
-    /// Reads a line that says what is to fail.
-    pub fn read(&mut self, verb: &str, args: &[String]) -> Result<(), StepFault> {
-        match (verb, args) {
-            ("steady", []) => self.is_steady = true,
-            ("room", [count]) => self.room = number(count)?,
-            ("fail", [what, place]) => {
-                let place = u64::from(number(place)?);
-                match what.as_str() {
-                    "call" => self.calls.push(place)?,
-                    "put" => self.puts.push(place)?,
-                    _ => return Err(StepFault::Unread),
-                }
-            }
-            _ => return Err(StepFault::Unread),
-        }
-        Ok(())
-    }
-}
+/// The traps of a host, each with the kinds of its arguments.
+pub type Traps = Vec<(u32, Sig)>;
 
 /// What a run came to.
 #[derive(Drop)]
@@ -72,6 +33,8 @@ pub struct Outcome {
     pub out: MemSink,
     /// How the run was told.
     pub err: MemSink,
+    /// How many calls the host was asked.
+    pub asked: usize,
     /// The files behind the run.
     pub shelf: Shelf,
 }
@@ -81,15 +44,16 @@ pub fn run(
     alloc: Global,
     words: &[String],
     shelf: &Shelf,
-    plan: &Plan,
+    traps: &[(u32, Sig)],
+    plan: Plan,
 ) -> Result<Outcome, NoMemory> {
     let entries = entries(alloc, shelf)?;
     let names = names(alloc, words, shelf)?;
     if plan.is_steady {
-        run_over(alloc, words, &names, plan, SteadyFiles::new(entries))
+        run_over(alloc, words, &names, traps, plan, SteadyFiles::new(entries))
     } else {
         let files = MemFiles::new(entries, plan.calls.to_vec(alloc)?);
-        run_over(alloc, words, &names, plan, files)
+        run_over(alloc, words, &names, traps, plan, files)
     }
 }
 
@@ -98,25 +62,50 @@ fn run_over<F: Files + Drop>(
     alloc: Global,
     words: &[String],
     names: &[String],
-    plan: &Plan,
+    traps: &[(u32, Sig)],
+    plan: Plan,
     mut files: F,
 ) -> Result<Outcome, NoMemory> {
-    let mut out = MemSink::new(alloc, ROOM, Vec::new(alloc))?;
+    let mut out = MemSink::new(alloc, plan.out_room, plan.out_puts.to_vec(alloc)?)?;
     let mut err = MemSink::new(alloc, plan.room, plan.puts.to_vec(alloc)?)?;
-    let mut host = FixedHost::new(Vec::new(alloc), 0);
-    let status = tool(alloc, words, &mut files, &mut out, &mut err, &mut host);
-    let mut shelf = BTreeMap::new(alloc);
-    for name in names {
-        if let Some(bytes) = read_back(alloc, &mut files, name, plan.calls.len())? {
-            shelf.insert(name.clone()?, bytes)?;
-        }
-    }
+    let failing = plan.calls.len();
+    let (status, asked) = if traps.is_empty() {
+        let mut host = FixedHost::new(Vec::new(alloc), 0);
+        let status = tool(alloc, words, &mut files, &mut out, &mut err, &mut host);
+        (status, 0)
+    } else {
+        let mut host = scripted(alloc, traps, plan)?;
+        let status = tool(alloc, words, &mut files, &mut out, &mut err, &mut host);
+        (status, host.asked_len())
+    };
     Ok(Outcome {
         code: status_code(&status),
         out,
         err,
-        shelf,
+        asked,
+        shelf: shelf_of(alloc, &mut files, names, failing)?,
     })
+}
+
+/// The host that has these traps and replies as planned.
+fn scripted(alloc: Global, traps: &[(u32, Sig)], plan: Plan) -> Result<ScriptHost, NoMemory> {
+    ScriptHost::new(alloc, traps.to_vec(alloc)?, plan.replies, plan.asks, ROOM)
+}
+
+/// The files of these names behind a run. `failing` calls at most may yet fail.
+fn shelf_of<F: Files>(
+    alloc: Global,
+    files: &mut F,
+    names: &[String],
+    failing: usize,
+) -> Result<Shelf, NoMemory> {
+    let mut shelf = BTreeMap::new(alloc);
+    for name in names {
+        if let Some(bytes) = read_back(alloc, files, name, failing)? {
+            shelf.insert(name.clone()?, bytes)?;
+        }
+    }
+    Ok(shelf)
 }
 
 /// The files as a list.

@@ -58,3 +58,11 @@ pub fn repeated(alloc: Global, line: &str) -> Result<String, StepFault> {
 pub fn number(word: &str) -> Result<u32, StepFault> {
     word.parse().ok().ok_or(StepFault::Unread)
 }
+
+/// A number of 32 bits, with or without a sign.
+pub fn word(text: &str) -> Result<u32, StepFault> {
+    match text.strip_prefix('-') {
+        Some(digits) => Ok(number(digits)?.wrapping_neg()),
+        None => number(text),
+    }
+}
