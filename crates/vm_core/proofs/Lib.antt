@@ -9,7 +9,8 @@ pub mod Frame
 pub mod Replies
 pub mod TextCopies
 pub mod Serving
-pub mod Stepping
+pub mod Settling
+pub mod Pausing
 pub mod Rows
 pub mod Quiet
 pub mod QuietCalls

@@ -8,3 +8,4 @@ pub mod Ran
 pub mod Served
 pub mod CallsRan
 pub mod Module
+pub mod Paused

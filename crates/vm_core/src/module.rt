@@ -1,5 +1,5 @@
 // A module: an image that runs.
-ghost use Rattle.std.specs.Prelude.{◌≡◌, ◌≤◌, ◌<◌, ◌^◌, length, vec_len};
+ghost use Rattle.std.specs.Prelude.{◌≤◌, ◌<◌, ◌^◌, length, vec_len, vec_capacity};
 
 use masked_mem::block::Block;
 use qv_ops::instr::Instr;
@@ -22,11 +22,11 @@ pub(crate) struct Registers {
 pub struct Module {
     pub(crate) code: Vec<Instr>,
     pub(crate) block: Block,
-    // As many bytes as the block has: the bytes of a host's reply, before they are put.
+    // Room for as many bytes as the block has: it takes those of a host's reply, before they are put.
     pub(crate) room: Vec<u8>,
     pub(crate) words: Words,
     pub(crate) registers: Registers,
     pub(crate) ready: bool,
     ghost code_fits: { vec_len code < 2 ^ 31 },
-    ghost room_fits: { vec_len room ≡ length block },
+    ghost room_fits: { length block ≤ vec_capacity room },
 }

@@ -1,11 +1,13 @@
 // Loading, starting and running a module.
-ghost use Rattle.std.specs.Prelude.{◌≡◌, IsTrue, ◌↔◌, ◌≤◌, ◌<◌, ◌^◌, length, IfOk, Some, true, false, sum};
+ghost use Rattle.std.specs.Prelude.{◌≡◌, IsTrue, ◌↔◌, ◌≤◌, ◌<◌, ◌^◌, length, vec_capacity, IfOk, Some, true, false, sum};
 ghost use Rattle.masked_mem.specs.Memory.{IsSize};
 ghost use Rattle.qv_image.specs.Shown.{qvm_of};
 ghost use Rattle.qv_outside.specs.Causes.{Rose};
-ghost use Rattle.vm_core.specs.Machine.{step, started, fresh_memory};
-ghost use Rattle.vm_core.specs.Module.{code_of, state_of, state_at, ready_of};
-ghost use Rattle.vm_core.specs.Ran.{Ran, Did, outside, outcome_of};
+ghost use Rattle.qv_outside.specs.Hosts.{Table};
+ghost use Rattle.vm_core.specs.Machine.{Step, step, started, fresh_memory};
+ghost use Rattle.vm_core.specs.Module.{code_of, state_of, state_at, ready_of, Leads};
+ghost use Rattle.vm_core.specs.Paused.{Paused};
+ghost use Rattle.vm_core.specs.Ran.{Ran, Did, Outside, outside, outcome_of};
 
 use crate::entry::entry_frame;
 use crate::fresh::fresh_block;
@@ -37,7 +39,7 @@ impl Module {
     {
         let code = image.code.to_vec(alloc)?;
         let block = fresh_block(alloc, image)?;
-        let room = Vec::from_elem(alloc, 0, block.size() as usize)?;
+        let room = Vec::with_capacity(alloc, block.size() as usize)?;
         let program_stack = block.size() - 64;
         Ok(Module {
             code,
@@ -150,11 +152,11 @@ impl Module {
     }
 }
 
-// At most n steps, counted down to make the loop short.
+// At most n steps. The loop of plain instructions is one of its own, so that it knows neither host nor sink.
 fn run_steps<H: Host, O: Sink>(
     code: &[Instr],
     block: &mut Block,
-    room: &mut [u8],
+    room: &mut Vec<u8>,
     words: &mut Words,
     r: &mut Registers,
     n: u64,
@@ -162,10 +164,11 @@ fn run_steps<H: Host, O: Sink>(
     out: &mut O,
 ) -> Stop
     requires code { length code.now < 2 ^ 31 }
-    requires room { length room.old ≡ length block.old }
+    requires room { length block.old ≤ vec_capacity room.old }
     requires size { IsSize (length block.old) }
     ensures ran { Ran (step code.now (H.table host.old)) n (state_at block.old words.old r.old) (state_at block.new words.new r.new) (outside (H.asked host.old) (H.replied host.old) (O.written out.old)) (outside (H.asked host.new) (H.replied host.new) (O.written out.new)) (outcome_of result) }
     ensures size { length block.new ≡ length block.old }
+    ensures room { vec_capacity room.old ≤ vec_capacity room.new }
     ensures kept { H.kept host.new ≡ H.kept host.old }
     ensures table { H.table host.new ≡ H.table host.old }
     ensures host_later { H.faults host.old ≤ H.faults host.new }
@@ -175,7 +178,10 @@ fn run_steps<H: Host, O: Sink>(
 {
     let mut left = n;
     while left > 0 {
-        if let Some(stop) = step(code, block, room, words, r, host, out) {
+        let Some(halt) = run_plain(code, block, words, r, &mut left) else {
+            return Stop::Budget;
+        };
+        if let Some(stop) = settle(block, room, words, r, halt, host, out) {
             return stop;
         }
         left -= 1;
@@ -183,21 +189,45 @@ fn run_steps<H: Host, O: Sink>(
     Stop::Budget
 }
 
-// One step: an instruction, and the trap that it may call.
-fn step<H: Host, O: Sink>(
+// Plain instructions, as long as steps are left, counted down to make the loop short. The instruction that doesn't go
+// on isn't counted.
+fn run_plain(
     code: &[Instr],
     block: &mut Block,
-    room: &mut [u8],
     words: &mut Words,
     r: &mut Registers,
+    left: &mut u64,
+) -> Option<Halt>
+    requires code { length code.now < 2 ^ 31 }
+    requires size { IsSize (length block.old) }
+    ensures paused { (table : Table) (told : Outside) → Paused code.now table left.old left.new (state_at block.old words.old r.old) (state_at block.new words.new r.new) told result }
+    ensures size { length block.new ≡ length block.old }
+{
+    while *left > 0 {
+        if let Some(halt) = advance(code, block, words, r) {
+            return Some(halt);
+        }
+        *left -= 1;
+    }
+    None
+}
+
+// Sees to an instruction that doesn't go on: it is a stop, or its trap is served. Gives nothing where the run goes on.
+fn settle<H: Host, O: Sink>(
+    block: &mut Block,
+    room: &mut Vec<u8>,
+    words: &mut Words,
+    r: &mut Registers,
+    halt: Halt,
     host: &mut H,
     out: &mut O,
 ) -> Option<Stop>
-    requires code { length code.now < 2 ^ 31 }
-    requires room { length room.old ≡ length block.old }
+    requires led { (t : Step) × Leads (H.table host.old) t (state_at block.old words.old r.old) (Some halt) }
+    requires room { length block.old ≤ vec_capacity room.old }
     requires size { IsSize (length block.old) }
-    ensures did { Did (step code.now (H.table host.old) (state_at block.old words.old r.old)) (state_at block.new words.new r.new) (outside (H.asked host.old) (H.replied host.old) (O.written out.old)) (outside (H.asked host.new) (H.replied host.new) (O.written out.new)) result }
+    ensures did { (t : Step) → Leads (H.table host.old) t (state_at block.old words.old r.old) (Some halt) → Did t (state_at block.new words.new r.new) (outside (H.asked host.old) (H.replied host.old) (O.written out.old)) (outside (H.asked host.new) (H.replied host.new) (O.written out.new)) result }
     ensures size { length block.new ≡ length block.old }
+    ensures room { vec_capacity room.old ≤ vec_capacity room.new }
     ensures kept { H.kept host.new ≡ H.kept host.old }
     ensures table { H.table host.new ≡ H.table host.old }
     ensures host_later { H.faults host.old ≤ H.faults host.new }
@@ -205,17 +235,14 @@ fn step<H: Host, O: Sink>(
     ensures host_fault { result ≡ Some Stop.HostFault → Rose (H.faults host.old) (H.faults host.new) }
     ensures out_fault { result ≡ Some Stop.OutFault → Rose (O.faults out.old) (O.faults out.new) }
 {
-    match advance(code, block, words, r) {
-        None => None,
-        Some(Halt::Stop(stop)) => Some(stop),
-        Some(Halt::Trap(number)) => {
-            match serve(block, room, r.program_stack, number, host, out) {
-                Ok(word) => {
-                    r.top = push_at(words, r.top, word);
-                    None
-                }
-                Err(stop) => Some(stop),
+    match halt {
+        Halt::Stop(stop) => Some(stop),
+        Halt::Trap(number) => match serve(block, room, r.program_stack, number, host, out) {
+            Ok(word) => {
+                r.top = push_at(words, r.top, word);
+                None
             }
-        }
+            Err(stop) => Some(stop),
+        },
     }
 }

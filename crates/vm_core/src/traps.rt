@@ -1,5 +1,5 @@
 //! The service of traps: the console's, the machine's own, and those that the host answers.
-ghost use Rattle.std.specs.Prelude.{◌≡◌, ◌++◌, ◌∷◌, [], ◌<◌, ◌≤◌, ◌+◌, length, Err, OnErr};
+ghost use Rattle.std.specs.Prelude.{◌≡◌, ◌++◌, ◌∷◌, [], ◌<◌, ◌≤◌, ◌+◌, length, vec_capacity, Err, OnErr};
 ghost use Rattle.masked_mem.specs.Memory.{IsSize};
 ghost use Rattle.qv_base.specs.Word.{plus};
 ghost use Rattle.qv_outside.specs.Causes.{Rose};
@@ -20,21 +20,22 @@ use trap_sig::arguments::{argument, scatter, text, text_within};
 use trap_sig::gather::{TrapRange, gather};
 
 /// Serves the trap of this number, which is called where the program stack stands at this place: gives the word that
-/// it replies, or the stop. `room` is as long as the block and takes the bytes of a host's reply.
+/// it replies, or the stop. `room` has room for as many bytes as the block, and takes those of a host's reply.
 // Not inlined: the loop of plain instructions stays small.
 #[inline(never)]
 pub(crate) fn serve<H: Host, O: Sink>(
     block: &mut Block,
-    room: &mut [u8],
+    room: &mut Vec<u8>,
     program_stack: u32,
     number: u32,
     host: &mut H,
     out: &mut O,
 ) -> Result<u32, Stop>
-    requires room { length room.old ≡ length block.old }
+    requires room { length block.old ≤ vec_capacity room.old }
     requires size { IsSize (length block.old) }
     ensures did { Serves (trapped (H.table host.old) number) block.old program_stack block.new (outside (H.asked host.old) (H.replied host.old) (O.written out.old)) (outside (H.asked host.new) (H.replied host.new) (O.written out.new)) result }
     ensures size { length block.new ≡ length block.old }
+    ensures room { vec_capacity room.old ≤ vec_capacity room.new }
     ensures kept { H.kept host.new ≡ H.kept host.old }
     ensures table { H.table host.new ≡ H.table host.old }
     ensures host_later { H.faults host.old ≤ H.faults host.new }
@@ -179,15 +180,16 @@ fn copy_text(block: &mut Block, program_stack: u32) -> Result<u32, Stop>
 // Asks the host.
 fn ask<H: Host>(
     block: &mut Block,
-    room: &mut [u8],
+    room: &mut Vec<u8>,
     program_stack: u32,
     number: u32,
     host: &mut H,
 ) -> Result<u32, Stop>
     requires host { 1 < number }
-    requires room { length room.old ≡ length block.old }
+    requires room { length block.old ≤ vec_capacity room.old }
     ensures did { ServesCall (λ s. asked number s (sig_of (H.table host.old) number)) block.old program_stack block.new (H.asked host.old) (H.asked host.new) (H.replied host.old) (H.replied host.new) result }
     ensures size { length block.new ≡ length block.old }
+    ensures room { vec_capacity room.old ≤ vec_capacity room.new }
     ensures kept { H.kept host.new ≡ H.kept host.old }
     ensures table { H.table host.new ≡ H.table host.old }
     ensures later { H.faults host.old ≤ H.faults host.new }

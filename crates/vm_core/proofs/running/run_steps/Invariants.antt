@@ -1,4 +1,4 @@
-use Rattle.std.proofs.Common.{◌≡◌, ◌≤◌, ◌-◌, length}
+use Rattle.std.proofs.Common.{◌≡◌, ◌≤◌, ◌-◌, length, vec_capacity}
 use Rattle.vm_core.specs.Machine.{step, Going}
 use Rattle.vm_core.specs.Module.{state_at}
 use Rattle.vm_core.specs.Ran.{Ran, outside, AsDefined}
@@ -11,6 +11,7 @@ invariant-loop-left g l = record {
       (outside (g.H.Host.asked l.fn.host) (g.H.Host.replied l.fn.host) (g.O.Sink.written l.fn.out))
       (outside (g.H.Host.asked l.host) (g.H.Host.replied l.host) (g.O.Sink.written l.out)) (AsDefined Going);
   size : length l.block ≡ length l.fn.block;
+  room : vec_capacity l.fn.room ≤ vec_capacity l.room;
   kept : g.H.Host.kept l.host ≡ g.H.Host.kept l.fn.host;
   table : g.H.Host.table l.host ≡ g.H.Host.table l.fn.host;
   host_later : g.H.Host.faults l.fn.host ≤ g.H.Host.faults l.host;

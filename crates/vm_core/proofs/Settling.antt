@@ -1,4 +1,4 @@
--- A step: an instruction, and the service of the trap that it may call.
+-- What an instruction that does not go on comes to: a stop, or the service of a trap.
 use Rattle.std.proofs.Common.{◌≡◌, ◌<◌, ℕ, List, ◌∷◌, length, drop, Option, Some, None, Result, Ok, Err, inl, refl, sym, subst, arith, length-drop}
 use Rattle.qv_outside.specs.Hosts.{Table}
 use Rattle.vm_core.specs.State.{State, Step}
