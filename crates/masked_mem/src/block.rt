@@ -14,6 +14,8 @@ use std::marker::Model;
 /// lowest byte first. The other calls take a range of bytes as it stands, and want it within the block:
 /// [`Block::fits`] tells whether it is.
 pub struct Block {
+    // One less than the size: the bits of an address that count.
+    mask: u32,
     size: usize,
     region: Region,
     lease: Lease<Global>,
@@ -21,19 +23,20 @@ pub struct Block {
 }
 
 impl Model for Block {
-    ghost use Rattle.std.specs.Prelude.{◌≡◌, List, ℕ, length};
+    ghost use Rattle.std.specs.Prelude.{◌≡◌, ◌+◌, List, ℕ, length};
     ghost use Rattle.masked_mem.specs.Memory.{IsSize};
 
     ghost Value = { List ℕ };
 
     ghost view = { λ b. b.region.bytes };
 
-    ghost invariant = { λ b. IsSize b.size × (b.size ≡ length b.region.bytes) × (b.lease.alloc ≡ b.alloc) × (b.lease.at ≡ b.region.at) × (b.lease.size ≡ b.size) };
+    ghost invariant = { λ b. IsSize b.size × (b.size ≡ length b.region.bytes) × (b.mask + 1 ≡ b.size) × (b.lease.alloc ≡ b.alloc) × (b.lease.at ≡ b.region.at) × (b.lease.size ≡ b.size) };
 }
 
 impl Drop for Block {
     fn drop(self) {
         let Block {
+            mask: _,
             size,
             region,
             lease,
@@ -59,6 +62,7 @@ impl Block {
             return Err(NoMemory);
         };
         Ok(Block {
+            mask: (size - 1) as u32,
             size,
             region,
             lease,
@@ -87,7 +91,7 @@ impl Block {
         ensures size { IsSize (length self.now) }
         ensures within { result < length self.now }
     {
-        at as usize & (self.size - 1)
+        (at & self.mask) as usize
     }
 
     /// The byte at an address.

@@ -17,11 +17,11 @@ const MILLISECONDS: u32 = 2;
 
 /// A host that answers trap 2 by the machine's clock, and all others as a registry does.
 ///
-/// It tells the milliseconds since it was made, cut to 32 bits. Modules measure spans of time by them and
-/// expect that they only grow, so they come from std's `Instant`, whose clock isn't set by anybody, and not
-/// from `SystemTime`, which may be set back. No contract promises that of a clock, so a reading that goes
-/// back is answered by the milliseconds told last, and so is one that fails. The host itself never fails, and
-/// tells nothing.
+/// The clock's answer is the milliseconds since the host was made, cut to 32 bits. Modules measure spans of
+/// time by them and expect that they only grow, so they come from std's `Instant`, whose clock nobody sets,
+/// and not from `SystemTime`, which may be set back. No contract promises that of a clock, so a reading that
+/// goes back is answered by the milliseconds of the last one, and so is one that fails. The host itself never
+/// fails, and doesn't tell `asked` and `replied`.
 #[derive(Drop)]
 pub struct RealClockHost<'a, R> {
     rt: &'a R,
@@ -92,6 +92,8 @@ impl<R: Clock> Host for RealClockHost<'_, R> {
         ensures table { with_clock (table_of self.new.registry) ≡ with_clock (table_of self.old.registry) }
 
         ensures never { IsOk result }
+
+        // The clock answers trap 2 and gives no bytes. Every other trap is answered as its handler does.
         ensures clock { call.now.number ≡ 2 → result ≡ Ok (record { word = self.new.milliseconds % 2 ^ 32; used = 0 }) }
         ensures untouched { call.now.number ≡ 2 → out.new ≡ out.old }
         ensures grows { self.old.milliseconds ≤ self.new.milliseconds }

@@ -1,106 +1,104 @@
--- Calls of a module one after another, where nothing outside is seen.
-use Rattle.std.proofs.Common.{◌≡◌, ◌<◌, ◌+◌, ℕ, suc, List, [], ◌∷◌, ◌++◌, length, take, drop, get_or, refl, sym, ap, ◌∙◌, subst}
-use Rattle.std.proofs.Math.Seq.{split_at}
-use Rattle.std.proofs.lemmas.List.{take_more}
-use Rattle.qv_ops.specs.declared.instr.Instr.{Instr}
-use Rattle.qv_outside.specs.Hosts.{Table}
+-- The work of a command that calls an image.
+use Rattle.std.proofs.Common.{◌≡◌, ℕ, List, [], ◌∷◌, Option, Some, Ok, Err, inl, inr, refl, sym, subst}
+use Rattle.std.specs.Prelude.{Result, IfSome}
+use Rattle.qv_base.specs.declared.NoMemory.{NoMemory as Wanting}
+use Rattle.qv_image.specs.Image.{Qvm}
+use Rattle.qv_outside.specs.FileMap.{FileMap, with_file}
 use Rattle.vm_core.specs.declared.stop.Stop.{Stop}
-use Rattle.vm_core.specs.declared.stop.Stop.TheVariants.{Returned, Budget as StepsUsed, HostFault, OutFault}
-use Rattle.vm_core.specs.Machine.{State, Step, Ending, Going, Stopped as HasStopped, Asks, End, step, started}
-use Rattle.vm_core.specs.Calls.{CallsEnd, Ended, calls_run}
-use Rattle.vm_core.specs.Ran.{Outside, AsDefined, outcome_of, Ran}
-use Rattle.vm_core.proofs.Loop.{ran_at}
-use Rattle.vm_core.proofs.Quiet.{IsQuiet, Unseen, budget_is, returned_is}
-use Rattle.vm_core.proofs.QuietRuns.{quiet_end, run_quiet, unseen}
-use Rattle.vm_core.proofs.QuietCalls.{Return, none_return, one_ends, one_returns}
-use Rattle.qv_tool.specs.Ending.{EndsBy, last_stop, last_word}
+use Rattle.vm_core.specs.declared.stop.Stop.TheVariants.{Returned, Budget as StepsUsed, HostFault as HostFailed, OutFault}
+use Rattle.qcc_front.specs.Source.{SourceRun}
+use Rattle.qv_tool.specs.declared.report.Report.{Report}
+use Rattle.qv_tool.specs.declared.status.Status.TheVariants.{NoMemory, ReadFault}
+use Rattle.qv_tool.specs.Answers.{BreaksOff, Completes, Reports}
+use Rattle.qv_tool.specs.Built.{Agrees, IsFollower}
+use Rattle.qv_tool.specs.Causes.{Calls, HasCause, IsServed, IsSilent, MakesCalls}
+use Rattle.qv_tool.specs.Ending.{line, stop_status, stop_text}
+use Rattle.qv_tool.specs.Played.{Played, Plays}
+use Rattle.qv_tool.specs.Status.{Refusal, kind_of}
+use Rattle.qv_tool.specs.Task.{Task, task_of}
+use Rattle.qv_tool.specs.Verdict.{Verdict, Builds, Runs, verdict}
+use Rattle.qv_tool.specs.Work.{Stored, Works}
+use Rattle.qv_tool.specs.World.{Keeper, World}
+use Rattle.qv_tool.proofs.Told.{along_both, kept, told_before}
+use Rattle.qv_tool.proofs.Working.{says_works, wants_works}
+use Rattle.qv_words.specs.Words.{Command}
 
-stopped_is : (stop t : Stop) → outcome_of stop ≡ AsDefined (HasStopped t) → stop ≡ t
-stopped_is StepsUsed t e = cc
-stopped_is HostFault t e = cc
-stopped_is OutFault t e = cc
-stopped_is stop t e = cc
+not_refused : (stop : Stop) → kind_of (stop_status stop) ≡ Refusal → ⊥
+not_refused (Returned word) e = cc
+not_refused StepsUsed e = cc
+not_refused HostFailed e = cc
+not_refused OutFault e = cc
+not_refused stop e = cc
 
-not_asking : (stop : Stop) → outcome_of stop ≡ AsDefined Asks → ⊥
-not_asking StepsUsed e = cc
-not_asking HostFault e = cc
-not_asking OutFault e = cc
-not_asking stop e = cc
+not_unread : (stop : Stop) → stop_status stop ≡ ReadFault → ⊥
+not_unread (Returned word) e = cc
+not_unread StepsUsed e = cc
+not_unread HostFailed e = cc
+not_unread OutFault e = cc
+not_unread stop e = cc
 
--- the stop of a call that ended the calls
-stop_told : (ending : Ending) (words : List ℕ) (stop : Stop) → outcome_of stop ≡ AsDefined ending → last_stop (Ended ending) words ≡ stop
-stop_told Going words stop e = sym (budget_is stop e)
-stop_told (HasStopped t) words stop e = sym (stopped_is stop t e)
-stop_told Asks words stop e = absurd (not_asking stop e)
+-- a command that asks for a task that calls an image
+pub calls_by : (c : Command) (task : Option Task) → task_of c ≡ task → Calls task → MakesCalls (Some c)
+calls_by c task asked calls = let C : Option Task → Type 0 = λ t. Calls t in subst C (sym asked) calls
 
-last_of_more : (words : List ℕ) (w : ℕ) → last_word (words ++ w ∷ []) ≡ w
-last_of_more [] w = refl
-last_of_more (v ∷ []) w = refl
-last_of_more (v ∷ u ∷ words) w = last_of_more (u ∷ words) w
+module _ (c : Option Command) (before after : World) (served : IsServed c) (calls_one : MakesCalls c) (table : after.around.table ≡ before.around.table) where
+  abbrev Stays : Type 0
+  Stays = after.around ≡ before.around
 
-same_ending : (a b : Ending) → AsDefined a ≡ AsDefined b → a ≡ b
-same_ending a b e = cc
+  loud : (stop : Stop) → IsSilent c (stop_status stop) → Stays
+  loud stop (inl none) = absurd (none calls_one)
+  loud stop (inr (inl refused)) = absurd (not_refused stop refused)
+  loud stop (inr (inr unread)) = absurd (not_unread stop unread)
 
-module _ (code : List Instr) (table : Table) (n : ℕ) where
-  abbrev f : State → Step
-  f = step code table
+  loud_wanting : IsSilent c NoMemory → Stays
+  loud_wanting (inl none) = absurd (none calls_one)
+  loud_wanting (inr (inl refused)) = absurd (let e = refused in cc)
+  loud_wanting (inr (inr unread)) = absurd (let e = unread in cc)
 
-  -- these calls have returned, and the last of them this word; they have left this memory
-  pub record Returning (calls : List (List ℕ)) (before behind : List ℕ) (last : ℕ) : Type 0 where
-    pub words : List ℕ
-    pub come : Return f n calls before words behind
-    pub last_is : last_word words ≡ last
+  -- the calls came to a stop, and the files are written
+  stop_reports : (held : FileMap) (text : List ℕ) (stop : Stop) → Completes held before.around after text (stop_status stop) (verdict held c) → Reports c held before after text (stop_status stop)
+  stop_reports held text (Returned word) completes = completes
+  stop_reports held text StepsUsed completes = completes
+  stop_reports held text HostFailed completes = completes
+  stop_reports held text OutFault completes = inr completes
+  stop_reports held text stop completes = completes
 
-  pub none_returning : (memory : List ℕ) → Returning [] memory memory 0
-  none_returning memory = record { words = []; come = none_return f n memory; last_is = refl }
+  module _ (z : Qvm) (steps : ℕ) (calls : List (List ℕ)) where
+    stop_cause : (stop : Stop) → Played z steps calls before.around after.around stop → HasCause c before after (stop_status stop)
+    stop_cause (Returned word) played = served
+    stop_cause StepsUsed played = served
+    stop_cause HostFailed played = (served, played.host_cause refl)
+    stop_cause OutFault played = (served, inr (played.out_cause refl))
+    stop_cause stop played = served
 
-  -- one call more
-  module _ (calls : List (List ℕ)) (args before behind : List ℕ) (last : ℕ) (stop : Stop) (after : State) (old new : Outside) (so_far : Returning calls before behind last) (ran : Ran f n (started behind args) after old new (outcome_of stop)) where
-    abbrev end : End
-    end = quiet_end code n (started behind args)
+    -- an image was called for this verdict
+    module _ (v : Verdict) (is : IfSome before.files.held (λ held. verdict held c ≡ v)) (Left : FileMap → Type 0) (left : IfSome before.files.held Left)
+        (completes : (held : FileMap) (stop : Stop) → Left held → Played z steps calls before.around after.around stop → Completes held before.around after (line (stop_text stop)) (stop_status stop) v) (breaks : (held : FileMap) → Left held → Stays → BreaksOff v held before.around after) where
+      come : (stop : Stop) → Played z steps calls before.around after.around stop → (held : FileMap) → verdict held c ≡ v → Left held → Completes held before.around after (line (stop_text stop)) (stop_status stop) (verdict held c)
+      come stop played held e l = let C : Verdict → Type 0 = λ x. Completes held before.around after (line (stop_text stop)) (stop_status stop) x in subst C (sym e) (completes held stop l played)
 
-    pub seen : Unseen end.ending end.state after old new (outcome_of stop)
-    seen = unseen code table n (started behind args) after old new (outcome_of stop) ran
+      pub called_works : (result : Result Report Wanting) → Plays z steps calls before.around after.around result → Works c before after result
+      called_works (Ok report) (stop, played, tells) =
+          says_works c before after (stop_status stop) (line (stop_text stop)) report (record { status_is = tells.status_is; line_is = tells.line_is })
+          (along_both (λ held. verdict held c ≡ v) Left (λ held. Reports c held before after (line (stop_text stop)) (stop_status stop)) before.files.held (λ held e l. stop_reports held (line (stop_text stop)) stop (come stop played held e l)) is left)
+          (stop_cause stop played) table (loud stop)
+      called_works (Err wanting) (inl stays) =
+          let B : FileMap → Verdict → Type 0 = λ held x. BreaksOff x held before.around after in
+          wants_works c before after wanting (along_both (λ held. verdict held c ≡ v) Left (λ held. B held (verdict held c)) before.files.held (λ held e l. subst (B held) (sym e) (breaks held l stays)) is left) table loud_wanting
+      called_works (Err wanting) (inr (stop, played)) =
+          wants_works c before after wanting (along_both (λ held. verdict held c ≡ v) Left (λ held. BreaksOff (verdict held c) held before.around after) before.files.held (λ held e l. inr (stop_status stop, line (stop_text stop), come stop played held e l)) is left) table loud_wanting
 
-    quiet : IsQuiet f n (started behind args) [] end.ending end.state []
-    quiet = run_quiet code table n (started behind args) []
+    -- an image that was read
+    pub played_works : (result : Result Report Wanting) → IfSome before.files.held (λ held. verdict held c ≡ Runs steps calls z) → after.files.held ≡ before.files.held → Plays z steps calls before.around after.around result → Works c before after result
+    played_works result is same plays =
+        called_works (Runs steps calls z) is (λ held. after.files.held ≡ Some held) (kept before.files.held after.files.held same)
+        (λ held stop l played. record { stop = stop; played = played; tells = record { status_is = refl; line_is = refl }; held = l }) (λ held l stays. inl (inl l, stays)) result plays
 
-    pub goes_on : (w : ℕ) → stop ≡ Returned w → Returning (calls ++ args ∷ []) before after.memory w
-    goes_on w is =
-        let ending : HasStopped (Returned w) ≡ end.ending = same_ending (HasStopped (Returned w)) end.ending (sym (ap outcome_of is) ∙ seen.close_is) in
-        let Q : Ending → Type 0 = λ x. IsQuiet f n (started behind args) [] x end.state [] in
-        let M : State → Type 0 = λ s. Return f n (calls ++ args ∷ []) before (so_far.words ++ w ∷ []) s.memory in
-        record {
-          words = so_far.words ++ w ∷ [];
-          come = subst M (sym seen.state) (one_returns f n calls args before behind so_far.words w end.state so_far.come (subst Q (sym ending) quiet));
-          last_is = last_of_more so_far.words w;
-        }
-
-    pub stops : (more : List (List ℕ)) → ((w : ℕ) → stop ≡ Returned w → ⊥) → EndsBy (calls_run f n (calls ++ args ∷ more) before []) stop
-    stops more other =
-        let apart : (w : ℕ) → end.ending ≡ HasStopped (Returned w) → ⊥ = λ w e. other w (returned_is stop w (seen.close_is ∙ ap AsDefined e)) in
-        ap (λ (x : CallsEnd). last_stop x.outcome x.words) (one_ends f n calls more args before behind so_far.words end.ending end.state so_far.come quiet apart)
-        ∙ stop_told end.ending so_far.words stop seen.close_is
-
-  -- the call with the number i: over the module as it stands, whose code and table are these
-  module _ (calls : List (List ℕ)) (i : ℕ) (none : List ℕ) (code_now : List Instr) (table_now : Table) (before behind : List ℕ) (last : ℕ) (stop : Stop) (s after : State) (old new : Outside) (lt : i < length calls) (so_far : Returning (take i calls) before behind last)
-      (same_code : code_now ≡ code) (same_table : table_now ≡ table) (begun : s ≡ started behind (get_or calls i none)) (ran : Ran (step code_now table_now) n s after old new (outcome_of stop)) where
-    here : Ran f n (started behind (get_or calls i none)) after old new (outcome_of stop)
-    here = let S : State → Type 0 = λ x. Ran f n x after old new (outcome_of stop) in subst S begun (ran_at same_code same_table ran)
-
-    pub seen_at : Unseen (quiet_end code n (started behind (get_or calls i none))).ending (quiet_end code n (started behind (get_or calls i none))).state after old new (outcome_of stop)
-    seen_at = seen (take i calls) (get_or calls i none) before behind last stop after old new so_far here
-
-    pub goes_on_at : (w : ℕ) → stop ≡ Returned w → Returning (take (i + 1) calls) before after.memory w
-    goes_on_at w is =
-        let R : List (List ℕ) → Type 0 = λ xs. Returning xs before after.memory w in
-        subst R (sym (take_more calls i none lt)) (goes_on (take i calls) (get_or calls i none) before behind last stop after old new so_far here w is)
-
-    pub stops_at : ((w : ℕ) → stop ≡ Returned w → ⊥) → EndsBy (calls_run f n calls before []) stop
-    stops_at other =
-        let R : List (List ℕ) → Type 0 = λ xs. EndsBy (calls_run f n xs before []) stop in
-        subst R (sym (split_at calls i none lt)) (stops (take i calls) (get_or calls i none) before behind last stop after old new so_far here (drop (suc i) calls) other)
-
-  -- all calls have returned
-  pub all_returned : (calls : List (List ℕ)) (before behind : List ℕ) (last : ℕ) → Returning calls before behind last → EndsBy (calls_run f n calls before []) (Returned last)
-  all_returned calls before behind last so_far = ap (λ (x : CallsEnd). last_stop x.outcome x.words) so_far.come ∙ ap Returned so_far.last_is
+  -- that of a unit, whose file was written before
+  pub built_works : (steps : ℕ) (calls : List (List ℕ)) (mid : Keeper) (name bytes : List ℕ) (run : SourceRun) (follower : IsFollower run bytes) (result : Result Report Wanting) → IfSome before.files.held (λ held. verdict held c ≡ Builds steps calls name run) → mid.held ≡ before.files.held →
+      Stored mid after.files name bytes → ((stop : Stop) (played : Played follower.image steps calls before.around after.around stop) → Agrees run before.around.table calls played.ran.ran.replies follower.image steps stop) → Plays follower.image steps calls before.around after.around result → Works c before after result
+  built_works steps calls mid name bytes run follower result is same stored agrees plays =
+      let L : FileMap → Type 0 = λ held. after.files.held ≡ Some (with_file held name bytes) in
+      called_works follower.image steps calls (Builds steps calls name run) is L (told_before L before.files.held mid.held same stored)
+      (λ held stop l played. record { bytes = bytes; follower = follower; stop = stop; played = played; agrees = agrees stop played; tells = record { status_is = refl; line_is = refl }; held = l })
+      (λ held l stays. inl (inr (record { first = (name, bytes) ∷ []; later = []; writes = (bytes, refl, follower); held = l }), stays)) result plays

@@ -1,16 +1,18 @@
 -- The contents of several files, one after another.
-use Rattle.std.proofs.Common.{◌≡◌, ℕ, ◌+◌, ◌<◌, ◌≤◌, ◌^◌, true, false, List, [], ◌∷◌, ◌++◌, length, drop, get_or, Option, Some, None, Ok, Err, inl, inr, refl, sym, ap, ◌∙◌, subst, arith}
-use Rattle.std.specs.Prelude.{Contains, IfSome, nat_lt, if◌then◌else◌}
+use Rattle.std.proofs.Common.{◌≡◌, ℕ, ◌+◌, ◌<◌, ◌≤◌, ◌^◌, List, [], ◌∷◌, ◌++◌, length, drop, get_or, Option, Some, None, Ok, Err, inl, inr, refl, sym, ap, ◌∙◌, subst, arith}
+use Rattle.std.specs.Prelude.{Contains, Result, IfSome, IsErrOf, if◌then◌else◌}
 use Rattle.std.specs.Global.{Vec}
-use Rattle.std.proofs.lemmas.Bool.Decides.{nat_tests}
 use Rattle.std.proofs.lemmas.List.{append-nil, drop_all, drop_more}
 use Rattle.std.proofs.lemmas.List.Elements.{Contains-get_or}
-use Rattle.qv_outside.specs.FileMap.{FileMap, Reads, content, failed_by_read}
+use Rattle.qv_outside.specs.Causes.{Rose}
+use Rattle.qv_outside.specs.FileMap.{FileMap, Reads, ReadGives, content, failed_by_read}
 use Rattle.qv_outside.specs.declared.files.FileFault.{FileFault}
 use Rattle.qv_outside.specs.declared.files.FileFault.TheVariants.{Absent, TooLong, Failed, NoMemory as ReadNoMemory}
 use Rattle.qv_tool.specs.declared.report.Report.{Report}
 use Rattle.qv_tool.specs.Gathered.{Gathered, Found, Lacking, Overlong, gather_one, gathered, with_text}
 use Rattle.qv_tool.specs.Work.{IsRefused, SaysUnread}
+use Rattle.qv_tool.specs.World.{Keeper}
+use Rattle.qv_tool.proofs.Told.{along_both, below, not_below, read_gives, told_before}
 
 -- several contents before the others
 abbrev pub with_texts : List (List ℕ) → Gathered → Gathered
@@ -32,12 +34,6 @@ texts_lacking (t ∷ texts) name = ap (with_text t) (texts_lacking texts name)
 pub texts_overlong : (texts : List (List ℕ)) (name : List ℕ) → with_texts texts (Overlong name) ≡ Overlong name
 texts_overlong [] name = refl
 texts_overlong (t ∷ texts) name = ap (with_text t) (texts_overlong texts name)
-
-below : (a b : ℕ) → a < b → nat_lt a b ≡ true
-below a b lt = grind (arith, nat_tests)
-
-not_below : (a b : ℕ) → b ≤ a → nat_lt a b ≡ false
-not_below a b le = grind (arith, nat_tests)
 
 module _ (held : FileMap) (names : List (List ℕ)) (i : ℕ) (none : List ℕ) (lt : i < length names) (texts : List (List ℕ)) (so_far : gathered held names ≡ with_texts texts (gathered held (drop i names))) where
   here : gathered held names ≡ with_texts texts (gather_one (get_or names i none) (content held (get_or names i none)) (gathered held (drop (i + 1) names)))
@@ -66,33 +62,37 @@ module _ (names : List (List ℕ)) (i : ℕ) (lt : i < length names) (texts : Li
   abbrev SoFar : List (List ℕ) → ℕ → FileMap → Type 0
   SoFar ts j held = gathered held names ≡ with_texts ts (gathered held (drop j names))
 
-  pub gather_stays : (old mid new : Option FileMap) (source : Vec ℕ) → mid ≡ old → Reads mid new name (Ok source) → new ≡ old
-  gather_stays old None new source same reads = reads ∙ same
-  gather_stays old (Some held) new source same reads = reads.0 ∙ same
+  abbrev Gives : Result (Vec ℕ) FileFault → FileMap → Type 0
+  Gives result held = ReadGives held name result
 
   pub gather_more : (old mid new : Option FileMap) (source : Vec ℕ) → mid ≡ old → IfSome old (SoFar texts i) → Reads mid new name (Ok source) → IfSome old (SoFar (texts ++ source.items ∷ []) (i + 1))
-  gather_more None mid new source same so_far reads = tt
-  gather_more (Some old) mid new source same so_far reads =
-      let R : Option FileMap → Type 0 = λ m. Reads m new name (Ok source) in
-      let here : Reads (Some old) new name (Ok source) = subst R same reads in
-      gather_goes old names i [] lt texts so_far source.items (ap (content old) (sym same_name) ∙ here.1.0) here.1.1
+  gather_more old mid new source same so_far reads =
+      along_both (SoFar texts i) (Gives (Ok source)) (SoFar (texts ++ source.items ∷ []) (i + 1)) old (λ held far gives. gather_goes held names i [] lt texts far source.items (ap (content held) (sym same_name) ∙ gives.0) gives.1)
+      so_far (told_before (Gives (Ok source)) old mid same (read_gives mid new name (Ok source) reads))
 
-  refused : (old : FileMap) (failed before : Option (List ℕ)) (fault : FileFault) (new : Option FileMap) (report : Report) → SoFar texts i old → Reads (Some old) new name (Err fault) → failed ≡ failed_by_read before name (Err fault) → SaysUnread name report fault → IsRefused old failed names report
-  refused old failed before Absent new report so_far reads named says =
-      inl (name, gather_lacks old names i [] lt texts so_far (ap (content old) (sym same_name) ∙ reads.1) ∙ ap Lacking (sym same_name), says)
-  refused old failed before TooLong new report so_far reads named says =
-      inr (inl (name, gather_overlong old names i [] lt texts so_far reads.1.0 (ap (content old) (sym same_name) ∙ reads.1.1) reads.1.2 ∙ ap Overlong (sym same_name), says))
-  refused old failed before Failed new report so_far reads named says =
-      let C : List ℕ → Type 0 = λ x. Contains names x in
-      inr (inr (name, subst C (sym same_name) (Contains-get_or names i [] lt), named, says))
-  refused old failed before ReadNoMemory new report so_far reads named says = absurd says
+  module _ (first before after : Keeper) (report : Report) (same : before.held ≡ first.held) (later : first.read_faults ≤ before.read_faults) (so_far : IfSome first.held (SoFar texts i)) where
+    gives : (fault : FileFault) → Reads before.held after.held name (Err fault) → IfSome first.held (Gives (Err fault))
+    gives fault reads = told_before (Gives (Err fault)) first.held before.held same (read_gives before.held after.held name (Err fault) reads)
 
-  pub gather_refused : (old mid new : Option FileMap) (failed before : Option (List ℕ)) (fault : FileFault) (report : Report) → mid ≡ old → IfSome old (SoFar texts i) → Reads mid new name (Err fault) → IfSome mid (λ _. failed ≡ failed_by_read before name (Err fault)) → SaysUnread name report fault → IfSome old (λ held. IsRefused held failed names report)
-  gather_refused None mid new failed before fault report same so_far reads named says = tt
-  gather_refused (Some old) mid new failed before fault report same so_far reads named says =
-      let R : Option FileMap → Type 0 = λ m. Reads m new name (Err fault) in
-      let N : Option FileMap → Type 0 = λ m. IfSome m (λ _. failed ≡ failed_by_read before name (Err fault)) in
-      refused old failed before fault new report so_far (subst R same reads) (subst N same named) says
+    pub gather_refused : (fault : FileFault) → Reads before.held after.held name (Err fault) → IfSome before.held (λ _. after.failed ≡ failed_by_read before.failed name (Err fault)) → (IsErrOf {T = Vec ℕ} {E = FileFault} (Err fault) Failed → Rose before.read_faults after.read_faults) → SaysUnread name report fault → IsRefused first after names report
+    gather_refused Absent reads named cause says =
+        inl (
+          name,
+          says,
+          along_both (SoFar texts i) (Gives (Err Absent)) (λ held. gathered held names ≡ Lacking name) first.held
+              (λ held far g. gather_lacks held names i [] lt texts far (ap (content held) (sym same_name) ∙ g) ∙ ap Lacking (sym same_name)) so_far (gives Absent reads),
+        )
+    gather_refused TooLong reads named cause says =
+        inr (inl (
+          name,
+          says,
+          along_both (SoFar texts i) (Gives (Err TooLong)) (λ held. gathered held names ≡ Overlong name) first.held
+              (λ held far g. gather_overlong held names i [] lt texts far g.0 (ap (content held) (sym same_name) ∙ g.1) g.2 ∙ ap Overlong (sym same_name)) so_far (gives TooLong reads),
+        ))
+    gather_refused Failed reads named cause says =
+        let C : List ℕ → Type 0 = λ x. Contains names x in
+        inr (inr (name, says, subst C (sym same_name) (Contains-get_or names i [] lt), told_before (λ held. after.failed ≡ Some name) first.held before.held same named, omega (arith, later, cause refl)))
+    gather_refused ReadNoMemory reads named cause says = absurd says
 
 -- all files were read
 pub gather_done : (old : Option FileMap) (names texts : List (List ℕ)) (j : ℕ) → length names ≤ j → IfSome old (λ held. gathered held names ≡ with_texts texts (gathered held (drop j names))) → IfSome old (λ held. gathered held names ≡ Found texts)

@@ -1,11 +1,9 @@
-pub mod Calling
+pub mod Told
 pub mod Working
-pub mod Causing
-pub mod Playing
+pub mod Refusing
 pub mod Linking
 pub mod Listing
 pub mod Gathering
-pub mod Damaging
+pub mod Playing
+pub mod Calling
 pub mod Answering
-pub mod Worked
-pub mod Quieting

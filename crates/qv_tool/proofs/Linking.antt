@@ -1,62 +1,28 @@
--- What files of assembly come to.
-use Rattle.std.proofs.Common.{◌≡◌, ℕ, List, [], ◌∷◌, Option, Some, None, Ok, Err, inl, inr, refl, sym, ap, ◌∙◌, subst, ⊎_elim}
-use Rattle.std.specs.Prelude.{Contains, Result, IfOk, IfSome, ◌⊎◌}
+-- The files that are linked, by the words or by a list.
+use Rattle.std.proofs.Common.{◌≡◌, ◌≤◌, ℕ, List, [], ◌∷◌, Option, Some, Ok, Err, inl, inr, refl, sym, ap, ◌∙◌, subst, arith}
+use Rattle.std.specs.Prelude.{Contains, Result, IfOk, IfSome}
 use Rattle.std.specs.Global.{Vec}
 use Rattle.std.proofs.lemmas.List.Elements.{Contains-append_right}
 use Rattle.qv_base.specs.declared.NoMemory.{NoMemory as Wanting}
-use Rattle.qv_outside.specs.FileMap.{FileMap, Reads, content}
-use Rattle.qv_outside.specs.Hosts.{Table}
-use Rattle.asm_link.specs.Link.{linked}
-use Rattle.asm_link.specs.declared.fault.AsmFault.{AsmFault}
-use Rattle.asm_link.specs.declared.fault.AsmKind.{AsmKind}
-use Rattle.asm_link.specs.declared.fault.AsmKind.TheVariants.{BadList, NoMemory as LinkNoMemory}
+use Rattle.qv_outside.specs.Causes.{Rose}
+use Rattle.qv_outside.specs.FileMap.{FileMap, Reads, ReadGives, content}
+use Rattle.asm_link.specs.declared.fault.AsmKind.TheVariants.{BadList}
 use Rattle.qv_tool.specs.declared.report.Report.{Report}
-use Rattle.qv_tool.specs.declared.status.Status.TheVariants.{Assembly}
+use Rattle.qv_tool.specs.declared.status.Status.{Status}
+use Rattle.qv_tool.specs.declared.status.Status.TheVariants.{Done, Usage, Missing, NotYet, Assembly, Image, Stopped, Budget, ReadFault, WriteFault, HostFault, NoMemory}
+use Rattle.qv_tool.specs.Answers.{Reports}
 use Rattle.qv_tool.specs.Assembly.{fault_text}
+use Rattle.qv_tool.specs.Causes.{HasCause}
 use Rattle.qv_tool.specs.Ending.{line}
-use Rattle.qv_tool.specs.Gathered.{Found, gathered}
 use Rattle.qv_tool.specs.Names.{names_in}
 use Rattle.qv_tool.specs.Task.{Task, Assemble, AssembleList, task_of}
-use Rattle.qv_tool.specs.Verdict.{Verdict, Unlinked, listed, listed_in, name_at, of_gathered, of_linked, of_list, of_task, read_for, verdict}
-use Rattle.qv_tool.specs.Work.{Asks, IsRefused, Says, SaysUnlinked, Leaves}
-use Rattle.qv_tool.proofs.Working.{absent_leaves, along, if_told, read_failed_leaves, read_goes, refused_leaves, too_long_leaves, wanting_leaves}
+use Rattle.qv_tool.specs.Verdict.{Unlinked, listed, listed_in, of_list, of_task, read_for, verdict}
+use Rattle.qv_tool.specs.Work.{Asks, Leaves, Says, Works}
+use Rattle.qv_tool.specs.World.{Keeper, Surroundings, world}
+use Rattle.qv_tool.proofs.Refusing.{served_by}
+use Rattle.qv_tool.proofs.Told.{along, along_both, if_told, read_gives, read_goes, read_stays, told_before}
+use Rattle.qv_tool.proofs.Working.{refused_works}
 use Rattle.qv_words.specs.Words.{Command}
-
-module _ (table : Table) (c : Command) (image : List ℕ) (names : List (List ℕ)) where
-  abbrev go : List (List ℕ) → Verdict
-  go texts = of_linked image names (linked texts)
-
-  refused : (old : FileMap) (new : Option FileMap) (failed : Option (List ℕ)) (report : Report) → new ≡ Some old → Asks c image names old → IsRefused old failed names report → Leaves table (Some c) old new failed (Ok report)
-  refused old new failed report stays asks (inl (name, is, says)) = absent_leaves table (Some c) old new failed name report (asks.verdict_is ∙ ap (of_gathered go) is) stays says
-  refused old new failed report stays asks (inr (inl (name, is, says))) = too_long_leaves table (Some c) old new failed name report (asks.verdict_is ∙ ap (of_gathered go) is) stays says
-  refused old new failed report stays asks (inr (inr (name, one, named, says))) = read_failed_leaves table (Some c) old new failed name report (asks.needs name one) named stays says
-
-  -- one of the files was refused
-  pub unfound_leaves : (old new : Option FileMap) (failed : Option (List ℕ)) (report : Report) → new ≡ old → IfSome old (λ held. IsRefused held failed names report) → IfSome old (Asks c image names) → IfSome old (λ held. Leaves table (Some c) held new failed (Ok report))
-  unfound_leaves None new failed report stays is asks = tt
-  unfound_leaves (Some old) new failed report stays is asks = refused old new failed report stays asks is
-
-  -- all were read
-  pub found_goes : (old : Option FileMap) (texts : List (List ℕ)) → IfSome old (λ held. gathered held names ≡ Found texts) → IfSome old (Asks c image names) → IfSome old (λ held. verdict held (Some c) ≡ go texts)
-  found_goes None texts is asks = tt
-  found_goes (Some old) texts is asks = asks.verdict_is ∙ ap (of_gathered go) is
-
-  -- they aren't linked
-  module _ (texts : List (List ℕ)) (old mid : Option FileMap) (failed : Option (List ℕ)) (fault : AsmFault) (goes : IfSome old (λ held. verdict held (Some c) ≡ go texts)) (stays : mid ≡ old) where
-    told : (report : Report) → linked texts ≡ Err fault → Says Assembly (line (fault_text (name_at names fault.file) fault.line fault.kind)) report → IfSome old (λ held. Leaves table (Some c) held mid failed (Ok report))
-    told report answer says =
-        refused_leaves table (Some c) (Unlinked (name_at names fault.file) fault) old mid failed Assembly (line (fault_text (name_at names fault.file) fault.line fault.kind)) (Ok report) (along old (λ held h. h ∙ ap (of_linked image names) answer) goes) stays tt refl says
-
-    not_wanting : (kind : AsmKind) → fault.kind ≡ kind → (kind ≡ LinkNoMemory → ⊥) → (fault.kind ≡ LinkNoMemory) ⊎ (linked texts ≡ Err fault) → linked texts ≡ Err fault
-    not_wanting kind e apart answers = ⊎_elim (λ wanting. absurd (apart (sym e ∙ wanting))) (λ answer. answer) answers
-
-    by_kind : (kind : AsmKind) (report : Report) → fault.kind ≡ kind → (fault.kind ≡ LinkNoMemory) ⊎ (linked texts ≡ Err fault) → SaysUnlinked (name_at names fault.file) kind fault report → IfSome old (λ held. Leaves table (Some c) held mid failed (Ok report))
-    by_kind LinkNoMemory report e answers says = absurd says
-    by_kind kind report e answers says = told report (not_wanting kind e (λ p. cc) answers) says
-
-    pub unlinked_leaves : (result : Result Report Wanting) → (fault.kind ≡ LinkNoMemory) ⊎ (linked texts ≡ Err fault) → IfOk result (λ report. SaysUnlinked (name_at names fault.file) fault.kind fault report) → IfSome old (λ held. Leaves table (Some c) held mid failed result)
-    unlinked_leaves (Err wanting) answers says = wanting_leaves table (Some c) old mid failed wanting stays
-    unlinked_leaves (Ok report) answers says = by_kind fault.kind report refl answers says
 
 -- files that the words name
 pub files_ask : (c : Command) (image : List ℕ) (names : List (List ℕ)) (held : FileMap) → task_of c ≡ Some (Assemble image names) → Asks c image names held
@@ -65,10 +31,55 @@ files_ask c image names held asked = record {
   needs = λ name one. let C : Option Task → Type 0 = λ t. Contains (read_for held t) name in subst C (sym asked) one;
 }
 
+-- a count that rose since a later time rose since an earlier one
+rose_since : (a b n : ℕ) → a ≤ b → Rose b n → Rose a n
+rose_since a b n le rose = omega (arith, le, rose)
+
+-- what is right since a later time is so since an earlier one, if nothing but a read was done between them
+module _ (c : Option Command) (around : Surroundings) (before mid after : Keeper) (reads : before.read_faults ≤ mid.read_faults) (writes : mid.write_faults ≡ before.write_faults) where
+  write_since : Rose mid.write_faults after.write_faults → Rose before.write_faults after.write_faults
+  write_since rose = let R : ℕ → Type 0 = λ n. Rose n after.write_faults in subst R writes rose
+
+  reports_since : (text : List ℕ) (held : FileMap) (status : Status) → Reports c held (world mid around) (world after around) text status → Reports c held (world before around) (world after around) text status
+  reports_since text held Done reports = reports
+  reports_since text held Stopped reports = reports
+  reports_since text held Budget reports = reports
+  reports_since text held HostFault reports = reports
+  reports_since text held Usage reports = reports
+  reports_since text held NotYet reports = reports
+  reports_since text held Missing reports = reports
+  reports_since text held Assembly reports = reports
+  reports_since text held Image reports = reports
+  reports_since text held NoMemory reports = reports
+  reports_since text held ReadFault reports =
+      let u = reports.0 in (record { name = u.name; reads = u.reads; failed_is = u.failed_is; held = u.held; cause = rose_since _ _ _ reads u.cause }, reports.1, reports.2)
+  reports_since text held WriteFault (inl (t, line_is, quiet)) =
+      inl (record { first = t.first; name = t.name; bytes = t.bytes; later = t.later; writes = t.writes; files = t.files; held = t.held; torn = t.torn; failed_is = t.failed_is; cause = write_since t.cause }, line_is, quiet)
+  reports_since text held WriteFault (inr completes) = inr completes
+
+  cause_since : (status : Status) → HasCause c (world mid around) (world after around) status → HasCause c (world before around) (world after around) status
+  cause_since ReadFault has = (has.0, rose_since _ _ _ reads has.1)
+  cause_since WriteFault (served, inl rose) = (served, inl (write_since rose))
+  cause_since WriteFault (served, inr rose) = (served, inr rose)
+  cause_since status has = has
+
+  pub works_since : (result : Result Report Wanting) → mid.held ≡ before.held → Works c (world mid around) (world after around) result → Works c (world before around) (world after around) result
+  works_since (Ok report) same works =
+      let M : FileMap → Type 0 = λ held. Reports c held (world mid around) (world after around) report.line.items report.status in
+      let B : FileMap → Type 0 = λ held. Reports c held (world before around) (world after around) report.line.items report.status in
+      record { leaves = along M B before.held (λ held m. reports_since report.line.items held report.status m) (told_before M before.held mid.held same works.leaves); cause = cause_since report.status works.cause; table = refl; quiet = works.quiet }
+  works_since (Err wanting) same works =
+      let M : FileMap → Type 0 = λ held. Leaves c held (world mid around) (world after around) (Err wanting) in
+      record { leaves = told_before M before.held mid.held same works.leaves; cause = tt; table = refl; quiet = works.quiet }
+
 -- the list of `-f`
-module _ (table : Table) (c : Command) (image list : List ℕ) (asked : task_of c ≡ Some (AssembleList image list)) (source : Vec ℕ) where
-  list_asks : (held : FileMap) (names : List (List ℕ)) → verdict held (Some c) ≡ of_list held image list (names_in source.items) → content held list ≡ Some source.items → names_in source.items ≡ Ok names → Asks c image names held
-  list_asks held names is here e = record {
+module _ (c : Command) (image list : List ℕ) (asked : task_of c ≡ Some (AssembleList image list)) (source : Vec ℕ) where
+  -- it was read: the verdict is that on its names
+  pub list_goes : (old mid : Option FileMap) → Reads old mid list (Ok source) → IfSome old (λ held. verdict held (Some c) ≡ of_list held image list (names_in source.items))
+  list_goes old mid reads = read_goes (Some c) list (λ held bytes. of_list held image list (names_in bytes)) old mid source (if_told (λ held. verdict held (Some c) ≡ of_task held (Some (AssembleList image list))) old (λ held. ap (of_task held) asked)) reads
+
+  asks : (held : FileMap) (names : List (List ℕ)) → verdict held (Some c) ≡ of_list held image list (names_in source.items) → content held list ≡ Some source.items → names_in source.items ≡ Ok names → Asks c image names held
+  asks held names is here e = record {
     verdict_is = is ∙ ap (of_list held image list) e;
     needs = λ name one.
         let C : Option Task → Type 0 = λ t. Contains (read_for held t) name in
@@ -78,23 +89,9 @@ module _ (table : Table) (c : Command) (image list : List ℕ) (asked : task_of 
   }
 
   -- its names were read
-  pub list_asked : (old mid : Option FileMap) (names : List (List ℕ)) → IfSome old (λ held. verdict held (Some c) ≡ of_list held image list (names_in source.items)) → Reads old mid list (Ok source) → names_in source.items ≡ Ok names → IfSome mid (Asks c image names)
-  list_asked None mid names is reads e = let A : Option FileMap → Type 0 = λ m. IfSome m (Asks c image names) in subst A (sym reads) tt
-  list_asked (Some old) mid names is reads e = let A : Option FileMap → Type 0 = λ m. IfSome m (Asks c image names) in subst A (sym reads.0) (list_asks old names is reads.1.0 e)
-
-  -- the files that they name are linked
-  pub list_leaves : (old mid new : Option FileMap) (failed : Option (List ℕ)) (result : Result Report Wanting) → Reads old mid list (Ok source) → IfSome mid (λ held. Leaves table (Some c) held new failed result) → IfSome old (λ held. Leaves table (Some c) held new failed result)
-  list_leaves None mid new failed result reads works = tt
-  list_leaves (Some old) mid new failed result reads works =
-      let W : Option FileMap → Type 0 = λ m. IfSome m (λ held. Leaves table (Some c) held new failed result) in
-      subst W reads.0 works
-
-  -- it is at fault
-  pub bad_list_leaves : (old mid : Option FileMap) (failed : Option (List ℕ)) (number : ℕ) (result : Result Report Wanting) → IfSome old (λ held. verdict held (Some c) ≡ of_list held image list (names_in source.items)) → mid ≡ old → names_in source.items ≡ Err number →
-      IfOk result (λ report. Says Assembly (line (fault_text list number BadList)) report) → IfSome old (λ held. Leaves table (Some c) held mid failed result)
-  bad_list_leaves old mid failed number result is stays e says =
-      refused_leaves table (Some c) (Unlinked list (record { file = 0; line = number; kind = BadList })) old mid failed Assembly (line (fault_text list number BadList)) result (along old (λ held h. h ∙ ap (of_list held image list) e) is) stays tt refl says
-
-  -- it was read: the verdict is that on its names
-  pub list_goes : (old mid : Option FileMap) → Reads old mid list (Ok source) → IfSome old (λ held. verdict held (Some c) ≡ of_list held image list (names_in source.items))
-  list_goes old mid reads = read_goes table (Some c) list (λ held bytes. of_list held image list (names_in bytes)) old mid source (if_told old (λ held. ap (of_task held) asked)) reads
+  pub list_asked : (old mid : Option FileMap) (names : List (List ℕ)) → Reads old mid list (Ok source) → names_in source.items ≡ Ok names → IfSome mid (Asks c image names)
+  list_asked old mid names reads e =
+      let A : FileMap → Type 0 = λ held. Asks c image names held in
+      let V : FileMap → Type 0 = λ held. verdict held (Some c) ≡ of_list held image list (names_in source.items) in
+      let G : FileMap → Type 0 = λ held. ReadGives held list (Ok source) in
+      told_before A mid old (sym (read_stays old mid list (Ok source) reads)) (along_both V G A old (λ held v g. asks held names v g.0 e) (list_goes old mid reads) (read_gives old mid list (Ok source) reads))

@@ -1,224 +1,151 @@
--- What the work of a command leaves, by what its parts answer.
-use Rattle.std.proofs.Common.{◌≡◌, ◌<◌, ◌≤◌, ◌^◌, ℕ, true, false, List, [], ◌∷◌, ◌++◌, length, Option, Some, None, Ok, Err, inl, inr, refl, sym, ap, ◌∙◌, subst, arith}
-use Rattle.std.specs.Prelude.{Contains, Result, IfOk, IfSome, nat_lt, if◌then◌else◌, codes}
+-- The work of a command, by the last thing that it did.
+use Rattle.std.proofs.Common.{◌≡◌, ◌^◌, ℕ, List, [], ◌∷◌, ◌++◌, length, Option, Some, Ok, Err, inl, inr, refl, sym, ap, ◌∙◌, subst}
+use Rattle.std.specs.Prelude.{Contains, Result, IfOk, IfSome, IsErrOf, if◌then◌else◌, codes}
 use Rattle.std.specs.Global.{Vec}
-use Rattle.std.proofs.lemmas.Bool.Decides.{nat_tests}
-use Rattle.std.proofs.lemmas.List.Elements.{Contains-get_or}
 use Rattle.qv_base.specs.declared.NoMemory.{NoMemory as Wanting}
-use Rattle.qv_image.specs.Image.{Qvm}
-use Rattle.qv_outside.specs.FileMap.{FileMap, content, with_file, Reads, Writes, failed_by_read, failed_by_write}
-use Rattle.qv_outside.specs.Hosts.{Table}
+use Rattle.qv_outside.specs.Causes.{Rose}
+use Rattle.qv_outside.specs.FileMap.{FileMap, content, with_file, Reads, ReadGives, failed_by_read}
 use Rattle.qv_outside.specs.declared.files.FileFault.{FileFault}
-use Rattle.qv_outside.specs.declared.files.FileFault.TheVariants.{Absent as IsAbsent, TooLong as IsTooLong, Failed as ReadFailed, NoMemory as ReadNoMemory}
-use Rattle.qv_outside.specs.declared.files.WriteFault.{WriteFault}
-use Rattle.qv_outside.specs.declared.files.WriteFault.TheVariants.{Failed}
-use Rattle.vm_core.specs.Calls.{CallsEnd, image_run}
-use Rattle.vm_core.specs.declared.stop.Stop.{Stop}
-use Rattle.vm_core.specs.declared.stop.Stop.TheVariants.{Returned, Budget as StepsUsed}
-use Rattle.qcc_front.specs.Sum.{Sum}
+use Rattle.qv_outside.specs.declared.files.FileFault.TheVariants.{Absent as IsAbsent, TooLong as IsTooLong, Failed, NoMemory as ReadNoMemory}
 use Rattle.qv_tool.specs.declared.report.Report.{Report}
 use Rattle.qv_tool.specs.declared.status.Status.{Status}
-use Rattle.qv_tool.specs.declared.status.Status.TheVariants.{Done, Usage, Missing, NotYet, Assembly, Image, Stopped, Budget, ReadFault as LineReadFault, WriteFault as LineWriteFault}
-use Rattle.qv_tool.specs.Answers.{Completes, Finishes, IsFollower, Refuses, Reports, TellsValue, WritesFile, Wrote}
-use Rattle.qv_tool.specs.Ending.{line, last_stop, stop_status, Tells}
-use Rattle.qv_tool.specs.Task.{Task, AssembleList, task_of}
-use Rattle.qv_tool.specs.Verdict.{Verdict, Unreadable, Unready, Absent, TooLong, Runs, Builds, IsEnd, IsRefusal, listed, named_in, of_source, of_task, read_for, refusal_of, verdict}
-use Rattle.qv_tool.specs.Work.{Delivers, Leaves, Says, SaysUnread, Stores}
+use Rattle.qv_tool.specs.declared.status.Status.TheVariants.{Done, Usage, Missing, NotYet, Assembly, Image, ReadFault, WriteFault, NoMemory}
+use Rattle.qv_tool.specs.Answers.{BreaksOff, Completes, Finishes, Refuses, Reports}
+use Rattle.qv_tool.specs.Causes.{HasCause, IsServed, IsSilent}
+use Rattle.qv_tool.specs.Ending.{line}
+use Rattle.qv_tool.specs.Status.{Refusal, kind_of}
+use Rattle.qv_tool.specs.Verdict.{Verdict, Absent, TooLong, named_in, of_source, refusal_of, verdict}
+use Rattle.qv_tool.specs.Work.{Delivers, Keeps, Says, SaysTorn, SaysUnread, Stored, TornAt, Works}
+use Rattle.qv_tool.specs.World.{Keeper, Surroundings, World, world}
+use Rattle.qv_tool.specs.Written.{Writes}
+use Rattle.qv_tool.proofs.Told.{along, along_both, kept, not_below, read_gives, read_stays, told_before}
 use Rattle.qv_words.specs.Words.{Command}
 
-below : (a b : ℕ) → a < b → nat_lt a b ≡ true
-below a b lt = grind (arith, nat_tests)
+module _ (c : Option Command) (before after : World) where
+  -- a report says what is reported
+  pub says_works : (status : Status) (text : List ℕ) (report : Report) → Says status text report → IfSome before.files.held (λ held. Reports c held before after text status) → HasCause c before after status → after.around.table ≡ before.around.table →
+      (IsSilent c status → after.around ≡ before.around) → Works c before after (Ok report)
+  says_works status text report says told has table quiet =
+      let P : Status → Type 0 = λ s. IfSome before.files.held (λ held. Reports c held before after report.line.items s) in
+      let Q : List ℕ → Type 0 = λ t. IfSome before.files.held (λ held. Reports c held before after t status) in
+      let H : Status → Type 0 = λ s. HasCause c before after s in
+      let S : Status → Type 0 = λ s. IsSilent c s → after.around ≡ before.around in
+      record { leaves = subst P (sym says.status_is) (subst Q (sym says.line_is) told); cause = subst H (sym says.status_is) has; table = table; quiet = subst S (sym says.status_is) quiet }
 
-not_below : (a b : ℕ) → b ≤ a → nat_lt a b ≡ false
-not_below a b le = grind (arith, nat_tests)
+  -- memory is refused
+  pub wants_works : (wanting : Wanting) → IfSome before.files.held (λ held. BreaksOff (verdict held c) held before.around after) → after.around.table ≡ before.around.table → (IsSilent c NoMemory → after.around ≡ before.around) → Works c before after (Err wanting)
+  wants_works wanting told table quiet = record { leaves = told; cause = tt; table = table; quiet = quiet }
 
--- what holds over all files holds over those that are told
-pub if_told : {P : FileMap → Type 0} (old : Option FileMap) → ((held : FileMap) → P held) → IfSome old P
-if_told None h = tt
-if_told (Some held) h = h held
+-- nothing is printed or asked
+module _ (c : Option Command) (around : Surroundings) (before after : Keeper) where
+  abbrev Done_so : Result Report Wanting → Type 0
+  Done_so result = Works c (world before around) (world after around) result
 
-pub along : {P Q : FileMap → Type 0} (old : Option FileMap) → ((held : FileMap) → P held → Q held) → IfSome old P → IfSome old Q
-along None h p = tt
-along (Some held) h p = h held p
+  abbrev VerdictIs : Verdict → Type 0
+  VerdictIs v = IfSome before.held (λ held. verdict held c ≡ v)
 
--- the one file that a task reads is needed
-pub needs_one : (c : Command) (task : Option Task) (name : List ℕ) (old : Option FileMap) → task_of c ≡ task → ((held : FileMap) → read_for held task ≡ name ∷ []) → IfSome old (λ held. Contains (named_in held (Some c)) name)
-needs_one c task name old asked one =
-    if_told old (λ held.
-    let C : List (List ℕ) → Type 0 = λ names. Contains names name in
-    subst C (sym (ap (read_for held) asked ∙ one held)) (Contains-get_or (name ∷ []) 0 name (omega arith)))
+  abbrev Told : Status → List ℕ → FileMap → Type 0
+  Told status text held = Reports c held (world before around) (world after around) text status
 
-pub needs_list : (c : Command) (image list : List ℕ) (old : Option FileMap) → task_of c ≡ Some (AssembleList image list) → IfSome old (λ held. Contains (named_in held (Some c)) list)
-needs_list c image list old asked =
-    if_told old (λ held.
-    let C : List (List ℕ) → Type 0 = λ names. Contains names list in
-    subst C (sym (ap (read_for held) asked)) (Contains-get_or (list ∷ listed (content held list)) 0 list (omega arith)))
+  -- a report says what is reported
+  pub file_works : (status : Status) (text : List ℕ) (report : Report) → Says status text report → IfSome before.held (Told status text) → HasCause c (world before around) (world after around) status → Done_so (Ok report)
+  file_works status text report says told has = says_works c (world before around) (world after around) status text report says told has refl (λ silent. refl)
 
--- the verdict that a verdict comes to
-pub verdict_on : (c : Option Command) (u v : Verdict) (old : Option FileMap) → u ≡ v → IfSome old (λ held. verdict held c ≡ u) → IfSome old (λ held. verdict held c ≡ v)
-verdict_on c u v old e is = along old (λ held h. h ∙ e) is
+  -- memory is refused before a file is written
+  pub unstored_works : (mid : Keeper) (wanting : Wanting) → mid.held ≡ before.held → Keeps mid after → Done_so (Err wanting)
+  unstored_works mid wanting same keeps =
+      let K : FileMap → Type 0 = λ held. after.held ≡ Some held in
+      let B : FileMap → Type 0 = λ held. BreaksOff (verdict held c) held around (world after around) in
+      wants_works c (world before around) (world after around) wanting (along K B before.held (λ held is. inl (inl is, refl)) (told_before K before.held mid.held same keeps)) refl (λ silent. refl)
 
--- the write of a file failed
-pub torn_stores : (old new : Option FileMap) (before failed : Option (List ℕ)) (name bytes : List ℕ) (fault : WriteFault) (report : Report) → fault ≡ Failed → Writes old new name bytes (Err fault) → IfSome old (λ _. failed ≡ failed_by_write before name (Err fault)) →
-    Says LineWriteFault (line (codes "write fault: " ++ name)) report → IfSome old (λ held. Stores held new failed name bytes (Ok (Some report)))
-torn_stores None new before failed name bytes fault report is_failed wrote named says = tt
-torn_stores (Some old) None before failed name bytes fault report is_failed wrote named says = absurd wrote
-torn_stores (Some old) (Some new) before failed name bytes fault report is_failed wrote named says =
-    let F : WriteFault → Type 0 = λ f. Writes (Some old) (Some new) name bytes (Err f) in
-    let N : WriteFault → Type 0 = λ f. failed ≡ failed_by_write before name (Err f) in
-    (new, refl, subst F is_failed wrote, subst N is_failed named, says)
+  pub unwritten_works : (wanting : Wanting) → after.held ≡ before.held → Done_so (Err wanting)
+  unwritten_works wanting same = unstored_works before wanting refl (kept before.held after.held same)
 
-stop_is_end : (stop : Stop) → IsEnd (stop_status stop)
-stop_is_end (Returned w) = tt
-stop_is_end StepsUsed = tt
-stop_is_end stop = tt
+  -- a refusal
+  refusal_told : (status : Status) (text : List ℕ) (held : FileMap) → kind_of status ≡ Refusal → Refuses (verdict held c) held around (world after around) status text → Told status text held
+  refusal_told Usage text held is refuses = refuses
+  refusal_told NotYet text held is refuses = refuses
+  refusal_told Missing text held is refuses = refuses
+  refusal_told Assembly text held is refuses = refuses
+  refusal_told Image text held is refuses = refuses
+  refusal_told status text held is refuses = absurd (cc is)
 
-told_is_end : (end : CallsEnd) (status : Status) (text : List ℕ) → Tells end status text → IsEnd status
-told_is_end end status text tells = subst IsEnd (sym tells.status_is) (stop_is_end (last_stop end.outcome end.words))
+  pub refused_works : (v : Verdict) (status : Status) (text : List ℕ) (result : Result Report Wanting) → VerdictIs v → after.held ≡ before.held → kind_of status ≡ Refusal → refusal_of v ≡ Some (record { status = status; text = text }) → HasCause c (world before around) (world after around) status →
+      IfOk result (λ report. Says status text report) → Done_so result
+  refused_works v status text (Err wanting) is same refusal refused has says = unwritten_works wanting same
+  refused_works v status text (Ok report) is same refusal refused has says =
+      let V : FileMap → Type 0 = λ held. verdict held c ≡ v in
+      let K : FileMap → Type 0 = λ held. after.held ≡ Some held in
+      file_works status text report says
+      (along_both V K (Told status text) before.held (λ held e stays. refusal_told status text held refusal (record { refusal_is = ap refusal_of e ∙ refused; held = stays; quiet = refl })) is (kept before.held after.held same)) has
 
-module _ (table : Table) (c : Option Command) where
-  -- a report that says what is reported
-  says_leaves : (old : FileMap) (new : Option FileMap) (failed : Option (List ℕ)) (status : Status) (text : List ℕ) (report : Report) → Says status text report → Reports table c old new failed text status → Leaves table c old new failed (Ok report)
-  says_leaves old new failed status text report says reports =
-      let P : Status → Type 0 = λ s. Reports table c old new failed report.line.items s in
-      let Q : List ℕ → Type 0 = λ t. Reports table c old new failed t status in
-      subst P (sym says.status_is) (subst Q (sym says.line_is) reports)
+  -- the read of a file that the command reads failed
+  pub read_failed_works : (name : List ℕ) (report : Report) → IsServed c → IfSome before.held (λ held. Contains (named_in held c) name) → after.held ≡ before.held → IfSome before.held (λ _. after.failed ≡ Some name) → Rose before.read_faults after.read_faults →
+      Says ReadFault (line (codes "read fault: " ++ name)) report → Done_so (Ok report)
+  read_failed_works name report served needed same named rose says =
+      let C : FileMap → Type 0 = λ held. Contains (named_in held c) name in
+      let N : FileMap → Type 0 = λ held. after.failed ≡ Some name in
+      let K : FileMap → Type 0 = λ held. after.held ≡ Some held in
+      let B : FileMap → Type 0 = λ held. C held × N held in
+      file_works ReadFault (line (codes "read fault: " ++ name)) report says
+      (along_both B K (Told ReadFault (line (codes "read fault: " ++ name))) before.held (λ held b stays. (record { name = name; reads = b.0; failed_is = b.1; held = stays; cause = rose }, refl, refl))
+      (along_both C N B before.held (λ held x y. (x, y)) needed named) (kept before.held after.held same)) (served, rose)
 
-  refusal_reports : (old : FileMap) (new : Option FileMap) (failed : Option (List ℕ)) (status : Status) (text : List ℕ) → IsRefusal status → Refuses (verdict old c) old new status text → Reports table c old new failed text status
-  refusal_reports old new failed Usage text is refuses = refuses
-  refusal_reports old new failed NotYet text is refuses = refuses
-  refusal_reports old new failed Missing text is refuses = refuses
-  refusal_reports old new failed Assembly text is refuses = refuses
-  refusal_reports old new failed Image text is refuses = refuses
-  refusal_reports old new failed status text is refuses = absurd is
+  -- the first read of a command, of this name, answered a fault
+  module _ (name : List ℕ) (go : FileMap → List ℕ → Verdict) (served : IsServed c) (needed : IfSome before.held (λ held. Contains (named_in held c) name)) (is : IfSome before.held (λ held. verdict held c ≡ of_source name (go held) (content held name))) where
+    abbrev Says_so : FileFault → Result Report Wanting → Type 0
+    Says_so fault result = IfOk result (λ report. SaysUnread name report fault)
 
-  end_reports : (old : FileMap) (new : Option FileMap) (failed : Option (List ℕ)) (status : Status) (text : List ℕ) → IsEnd status → Completes table old new text status (verdict old c) → Reports table c old new failed text status
-  end_reports old new failed Done text is completes = completes
-  end_reports old new failed Stopped text is completes = completes
-  end_reports old new failed Budget text is completes = completes
-  end_reports old new failed status text is completes = absurd is
+    too_long : (held : FileMap) → verdict held c ≡ of_source name (go held) (content held name) → ReadGives held name (Err IsTooLong) → verdict held c ≡ TooLong name
+    too_long held e gives = e ∙ ap (of_source name (go held)) gives.1 ∙ ap (λ b. if b then go held gives.0 else TooLong name) (not_below (length gives.0) (2 ^ 31) gives.2)
 
-  -- a refusal, told with this line
-  refuses_with : (old : FileMap) (new : Option FileMap) (failed : Option (List ℕ)) (v : Verdict) (status : Status) (text : List ℕ) (report : Report) → verdict old c ≡ v → refusal_of v ≡ Some (record { status = status; text = text }) → new ≡ Some old → IsRefusal status → Says status text report →
-      Leaves table c old new failed (Ok report)
-  refuses_with old new failed v status text report e refused held is says =
-      says_leaves old new failed status text report says (refusal_reports old new failed status text is (record { refusal_is = ap refusal_of e ∙ refused; held = held }))
+    abbrev Source : FileMap → Type 0
+    Source held = verdict held c ≡ of_source name (go held) (content held name)
 
-  -- a name that the command reads is absent, too long or can't be read
-  pub absent_leaves : (old : FileMap) (new : Option FileMap) (failed : Option (List ℕ)) (name : List ℕ) (report : Report) → verdict old c ≡ Absent name → new ≡ Some old → Says Missing (line (codes "absent: " ++ name)) report → Leaves table c old new failed (Ok report)
-  absent_leaves old new failed name report e held says = refuses_with old new failed (Absent name) Missing (line (codes "absent: " ++ name)) report e refl held tt says
-
-  pub too_long_leaves : (old : FileMap) (new : Option FileMap) (failed : Option (List ℕ)) (name : List ℕ) (report : Report) → verdict old c ≡ TooLong name → new ≡ Some old → Says Missing (line (codes "too long: " ++ name)) report → Leaves table c old new failed (Ok report)
-  too_long_leaves old new failed name report e held says = refuses_with old new failed (TooLong name) Missing (line (codes "too long: " ++ name)) report e refl held tt says
-
-  pub read_failed_leaves : (old : FileMap) (new : Option FileMap) (failed : Option (List ℕ)) (name : List ℕ) (report : Report) → Contains (named_in old c) name → failed ≡ Some name → new ≡ Some old → Says LineReadFault (line (codes "read fault: " ++ name)) report → Leaves table c old new failed (Ok report)
-  read_failed_leaves old new failed name report needed named held says =
-      says_leaves old new failed LineReadFault (line (codes "read fault: " ++ name)) report says (record { name = name; reads = needed; failed_is = named; held = held }, refl)
-
-  -- the first read of a command, of this name
-  module _ (name : List ℕ) (go : FileMap → List ℕ → Verdict) where
-    too_long_is : (held : FileMap) (bytes : List ℕ) → verdict held c ≡ of_source name (go held) (content held name) → content held name ≡ Some bytes → 2 ^ 31 ≤ length bytes → verdict held c ≡ TooLong name
-    too_long_is held bytes is here long = is ∙ ap (of_source name (go held)) here ∙ ap (λ b. if b then go held bytes else TooLong name) (not_below (length bytes) (2 ^ 31) long)
-
-    -- it answered a fault
-    pub unread_leaves : (old new : Option FileMap) (before failed : Option (List ℕ)) (fault : FileFault) (result : Result Report Wanting) → IfSome old (λ held. Contains (named_in held c) name) → IfSome old (λ held. verdict held c ≡ of_source name (go held) (content held name)) →
-        Reads old new name (Err fault) → IfSome old (λ _. failed ≡ failed_by_read before name (Err fault)) → IfOk result (λ report. SaysUnread name report fault) → IfSome old (λ held. Leaves table c held new failed result)
-    unread_leaves None new before failed fault result needed is reads named says = tt
-    unread_leaves (Some old) new before failed fault (Err wanting) needed is reads named says = inl reads.0
-    unread_leaves (Some old) new before failed IsAbsent (Ok report) needed is reads named says = absent_leaves old new failed name report (is ∙ ap (of_source name (go old)) reads.1) reads.0 says
-    unread_leaves (Some old) new before failed IsTooLong (Ok report) needed is reads named says = too_long_leaves old new failed name report (too_long_is old reads.1.0 is reads.1.1 reads.1.2) reads.0 says
-    unread_leaves (Some old) new before failed ReadFailed (Ok report) needed is reads named says = read_failed_leaves old new failed name report needed named reads.0 says
-    unread_leaves (Some old) new before failed ReadNoMemory (Ok report) needed is reads named says = absurd says
-
-    -- it gave the file's content, and no file has changed
-    pub read_stays : (old new : Option FileMap) (source : Vec ℕ) → Reads old new name (Ok source) → new ≡ old
-    read_stays None new source reads = reads
-    read_stays (Some old) new source reads = reads.0
-
-    pub read_goes : (old new : Option FileMap) (source : Vec ℕ) → IfSome old (λ held. verdict held c ≡ of_source name (go held) (content held name)) → Reads old new name (Ok source) → IfSome old (λ held. verdict held c ≡ go held source.items)
-    read_goes None new source is reads = tt
-    read_goes (Some old) new source is reads = is ∙ ap (of_source name (go old)) reads.1.0 ∙ ap (λ b. if b then go old source.items else TooLong name) (below (length source.items) (2 ^ 31) reads.1.1)
-
-  -- memory is refused before the command's file is written
-  pub wanting_leaves : (old mid : Option FileMap) (failed : Option (List ℕ)) (wanting : Wanting) → mid ≡ old → IfSome old (λ held. Leaves table c held mid failed (Err wanting))
-  wanting_leaves None mid failed wanting stays = tt
-  wanting_leaves (Some old) mid failed wanting stays = inl stays
+    pub unread_works : (fault : FileFault) (result : Result Report Wanting) → Reads before.held after.held name (Err fault) → IfSome before.held (λ _. after.failed ≡ failed_by_read before.failed name (Err fault)) → (IsErrOf {T = Vec ℕ} {E = FileFault} (Err fault) Failed → Rose before.read_faults after.read_faults) →
+        Says_so fault result → Done_so result
+    unread_works fault (Err wanting) reads named cause says = unwritten_works wanting (read_stays before.held after.held name (Err fault) reads)
+    unread_works IsAbsent (Ok report) reads named cause says =
+        let G : FileMap → Type 0 = λ held. ReadGives held name (Err IsAbsent) in
+        let V : FileMap → Type 0 = λ held. verdict held c ≡ Absent name in
+        refused_works (Absent name) Missing (line (codes "absent: " ++ name)) (Ok report) (along_both Source G V before.held (λ held e gives. e ∙ ap (of_source name (go held)) gives) is (read_gives before.held after.held name (Err IsAbsent) reads))
+        (read_stays before.held after.held name (Err IsAbsent) reads) refl refl served says
+    unread_works IsTooLong (Ok report) reads named cause says =
+        let G : FileMap → Type 0 = λ held. ReadGives held name (Err IsTooLong) in
+        let V : FileMap → Type 0 = λ held. verdict held c ≡ TooLong name in
+        refused_works (TooLong name) Missing (line (codes "too long: " ++ name)) (Ok report) (along_both Source G V before.held too_long is (read_gives before.held after.held name (Err IsTooLong) reads))
+        (read_stays before.held after.held name (Err IsTooLong) reads) refl refl served says
+    unread_works Failed (Ok report) reads named cause says = read_failed_works name report served needed (read_stays before.held after.held name (Err Failed) reads) named (cause refl) says
+    unread_works ReadNoMemory (Ok report) reads named cause says = absurd says
 
   -- the verdict is this one, and no file has changed so far
-  module _ (v : Verdict) where
-    -- it's a refusal
-    pub refused_leaves : (old mid : Option FileMap) (failed : Option (List ℕ)) (status : Status) (text : List ℕ) (result : Result Report Wanting) → IfSome old (λ held. verdict held c ≡ v) → mid ≡ old → IsRefusal status → refusal_of v ≡ Some (record { status = status; text = text }) →
-        IfOk result (λ report. Says status text report) → IfSome old (λ held. Leaves table c held mid failed result)
-    refused_leaves None mid failed status text result is stays refusal refused says = tt
-    refused_leaves (Some old) mid failed status text (Err wanting) is stays refusal refused says = inl stays
-    refused_leaves (Some old) mid failed status text (Ok report) is stays refusal refused says = refuses_with old mid failed v status text report is refused stays refusal says
-
+  module _ (v : Verdict) (mid : Keeper) (name bytes : List ℕ) (served : IsServed c) (is : VerdictIs v) (same : mid.held ≡ before.held) (faults : mid.write_faults ≡ before.write_faults) (writes : Writes v ((name, bytes) ∷ [])) where
     -- the write of the command's file failed
-    torn : (old : FileMap) (new : Option FileMap) (failed : Option (List ℕ)) (target bytes : List ℕ) (report : Report) → verdict old c ≡ v → WritesFile v target bytes → Stores old new failed target bytes (Ok (Some report)) → Leaves table c old new failed (Ok report)
-    torn old new failed target bytes report is writes stores =
-        let W : Verdict → Type 0 = λ x. WritesFile x target bytes in
-        says_leaves old new failed LineWriteFault (line (codes "write fault: " ++ target)) report stores.4
-        (record { name = target; bytes = bytes; writes = subst W (sym is) writes; files = stores.0; held = stores.1; torn = stores.2; failed_is = stores.3 }, refl)
-
-    pub torn_leaves : (old mid new : Option FileMap) (failed : Option (List ℕ)) (target bytes : List ℕ) (stored : Option Report) (report : Report) → stored ≡ Some report → IfSome old (λ held. verdict held c ≡ v) → mid ≡ old → WritesFile v target bytes →
-        IfSome mid (λ held. Stores held new failed target bytes (Ok stored)) → IfSome old (λ held. Leaves table c held new failed (Ok report))
-    torn_leaves None mid new failed target bytes stored report some is stays writes stores = tt
-    torn_leaves (Some old) mid new failed target bytes stored report some is stays writes stores =
-        let S : Option FileMap → Type 0 = λ m. IfSome m (λ held. Stores held new failed target bytes (Ok stored)) in
-        let R : Option Report → Type 0 = λ r. Stores old new failed target bytes (Ok r) in
-        torn old new failed target bytes report is writes (subst R some (subst S stays stores))
-
-    -- memory is refused in the write of the command's file
-    pub unstored_leaves : (old mid new : Option FileMap) (failed : Option (List ℕ)) (target bytes : List ℕ) (wanting : Wanting) → mid ≡ old → IfSome mid (λ held. Stores held new failed target bytes (Err wanting)) → IfSome old (λ held. Leaves table c held new failed (Err wanting))
-    unstored_leaves None mid new failed target bytes wanting stays stores = tt
-    unstored_leaves (Some old) mid new failed target bytes wanting stays stores =
-        let S : Option FileMap → Type 0 = λ m. IfSome m (λ held. Stores held new failed target bytes (Err wanting)) in
-        inl (subst S stays stores)
-
-    wrote : (old : FileMap) (new : Option FileMap) (target bytes : List ℕ) → verdict old c ≡ v → WritesFile v target bytes → new ≡ Some (with_file old target bytes) → Wrote (verdict old c) old new
-    wrote old new target bytes is writes held = let W : Verdict → Type 0 = λ x. WritesFile x target bytes in record { name = target; bytes = bytes; writes = subst W (sym is) writes; held = held }
-
-    completes_leaves : (old : FileMap) (new : Option FileMap) (failed : Option (List ℕ)) (status : Status) (text : List ℕ) (report : Report) → verdict old c ≡ v → IsEnd status → Completes table old new text status v → Says status text report → Leaves table c old new failed (Ok report)
-    completes_leaves old new failed status text report is end completes says =
-        let C : Verdict → Type 0 = λ x. Completes table old new text status x in
-        says_leaves old new failed status text report says (end_reports old new failed status text end (subst C (sym is) completes))
+    pub torn_works : (report : Report) → SaysTorn mid after name bytes report → Done_so (Ok report)
+    torn_works report torn =
+        let R : ℕ → Type 0 = λ n. Rose n after.write_faults in
+        let rose : Rose before.write_faults after.write_faults = subst R faults torn.cause in
+        let V : FileMap → Type 0 = λ held. verdict held c ≡ v in
+        let T : FileMap → Type 0 = λ held. TornAt held after name bytes in
+        let W : Verdict → Type 0 = λ x. Writes x ((name, bytes) ∷ []) in
+        file_works WriteFault (line (codes "write fault: " ++ name)) report torn.says
+        (along_both V T (Told WriteFault (line (codes "write fault: " ++ name))) before.held
+        (λ held e t. inl (record { first = []; name = name; bytes = bytes; later = []; writes = subst W (sym e) writes; files = t.files; held = t.held; torn = t.torn; failed_is = t.failed_is; cause = rose }, refl, refl))
+        is (told_before T before.held mid.held same torn.torn)) (served, inl rose)
 
     -- the command's file was to be written, and that is all
-    module _ (new : Option FileMap) (failed : Option (List ℕ)) (target bytes : List ℕ) (writes : WritesFile v target bytes) (completes : (held : FileMap) → Finishes v held new Done (line (codes "done")) → Completes table held new (line (codes "done")) Done v) where
-      delivered : (old : FileMap) (report : Report) → verdict old c ≡ v → Delivers old new failed target bytes (Ok report) → Leaves table c old new failed (Ok report)
-      delivered old report is (inl (held, says)) = completes_leaves old new failed Done (line (codes "done")) report is tt
-          (completes old (record { status_is = refl; line_is = refl; wrote = record { name = target; bytes = bytes; writes = writes; held = held } })) says
-      delivered old report is (inr stores) = torn old new failed target bytes report is writes stores
+    module _ (completes : (held : FileMap) → Finishes v held around (world after around) Done (line (codes "done")) → Completes held around (world after around) (line (codes "done")) Done v) where
+      stored : (report : Report) → Says Done (line (codes "done")) report → Stored mid after name bytes → Done_so (Ok report)
+      stored report says wrote =
+          let V : FileMap → Type 0 = λ held. verdict held c ≡ v in
+          let W : FileMap → Type 0 = λ held. after.held ≡ Some (with_file held name bytes) in
+          let C : FileMap → Verdict → Type 0 = λ held x. Completes held around (world after around) (line (codes "done")) Done x in
+          file_works Done (line (codes "done")) report says
+          (along_both V W (Told Done (line (codes "done"))) before.held
+          (λ held e w. subst (C held) (sym e) (completes held (record { status_is = refl; line_is = refl; wrote = record { files = (name, bytes) ∷ []; writes = writes; held = w }; quiet = refl })))
+          is (told_before W before.held mid.held same wrote)) served
 
-      pub delivered_leaves : (old mid : Option FileMap) (result : Result Report Wanting) → IfSome old (λ held. verdict held c ≡ v) → mid ≡ old → IfSome mid (λ held. Delivers held new failed target bytes result) → IfSome old (λ held. Leaves table c held new failed result)
-      delivered_leaves None mid result is stays delivers = tt
-      delivered_leaves (Some old) mid (Err wanting) is stays delivers = let D : Option FileMap → Type 0 = λ m. IfSome m (λ held. Delivers held new failed target bytes (Err wanting)) in inl (subst D stays delivers)
-      delivered_leaves (Some old) mid (Ok report) is stays delivers = let D : Option FileMap → Type 0 = λ m. IfSome m (λ held. Delivers held new failed target bytes (Ok report)) in delivered old report is (subst D stays delivers)
-
-  -- an image was called
-  pub played_leaves : (old mid : Option FileMap) (failed : Option (List ℕ)) (steps : ℕ) (calls : List (List ℕ)) (z : Qvm) (result : Result Report Wanting) → IfSome old (λ held. verdict held c ≡ Runs steps calls z) → mid ≡ old →
-      IfOk result (λ report. Tells (image_run z table calls [] steps) report.status report.line.items) → IfSome old (λ held. Leaves table c held mid failed result)
-  played_leaves None mid failed steps calls z result is stays tells = tt
-  played_leaves (Some old) mid failed steps calls z (Err wanting) is stays tells = inl stays
-  played_leaves (Some old) mid failed steps calls z (Ok report) is stays tells =
-      completes_leaves (Runs steps calls z) old mid failed report.status report.line.items report is (told_is_end (image_run z table calls [] steps) report.status report.line.items tells)
-      (record { tells = tells; held = stays }) (record { status_is = refl; line_is = refl })
-
-  -- a unit was built, and its image was called
-  pub built_leaves : (old mid new : Option FileMap) (failed : Option (List ℕ)) (steps : ℕ) (calls : List (List ℕ)) (target bytes : List ℕ) (e : Sum) (follower : IsFollower e bytes) (stored : Option Report) (result : Result Report Wanting) → stored ≡ None →
-      IfSome old (λ held. verdict held c ≡ Builds steps calls target e) → mid ≡ old → IfSome mid (λ held. Stores held new failed target bytes (Ok stored)) → IfOk result (λ report. Tells (image_run follower.image table calls [] steps) report.status report.line.items) →
-      IfOk result (λ report. TellsValue e calls steps report.status report.line.items) → IfSome old (λ held. Leaves table c held new failed result)
-  built_leaves None mid new failed steps calls target bytes e follower stored result none is stays stores tells value = tt
-  built_leaves (Some old) mid new failed steps calls target bytes e follower stored (Err wanting) none is stays stores tells value =
-      let S : Option FileMap → Type 0 = λ m. IfSome m (λ held. Stores held new failed target bytes (Ok stored)) in
-      let R : Option Report → Type 0 = λ r. Stores old new failed target bytes (Ok r) in
-      inr (wrote (Builds steps calls target e) old new target bytes is (refl, follower) (subst R none (subst S stays stores)))
-  built_leaves (Some old) mid new failed steps calls target bytes e follower stored (Ok report) none is stays stores tells value =
-      let S : Option FileMap → Type 0 = λ m. IfSome m (λ held. Stores held new failed target bytes (Ok stored)) in
-      let R : Option Report → Type 0 = λ r. Stores old new failed target bytes (Ok r) in
-      completes_leaves (Builds steps calls target e) old new failed report.status report.line.items report is (told_is_end (image_run follower.image table calls [] steps) report.status report.line.items tells)
-      (record { bytes = bytes; follower = follower; tells = tells; value_is = value; held = subst R none (subst S stays stores) }) (record { status_is = refl; line_is = refl })
-
--- words that stand for no command
-pub unreadable_leaves : (table : Table) (old : Option FileMap) (failed : Option (List ℕ)) (result : Result Report Wanting) → IfOk result (λ report. Says Usage (line (codes "usage")) report) → IfSome old (λ held. Leaves table None held old failed result)
-unreadable_leaves table old failed result says = refused_leaves table None Unreadable old old failed Usage (line (codes "usage")) result (if_told old (λ held. refl)) refl tt refl says
+      pub delivered_works : (result : Result Report Wanting) → Delivers mid after name bytes result → Done_so result
+      delivered_works (Err wanting) keeps = unstored_works mid wanting same keeps
+      delivered_works (Ok report) (inl (says, wrote)) = stored report says wrote
+      delivered_works (Ok report) (inr torn) = torn_works report torn

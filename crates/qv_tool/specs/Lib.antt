@@ -5,9 +5,12 @@ pub mod Assembly
 pub mod Damage
 pub mod Names
 pub mod Gathered
+pub mod World
+pub mod Built
+pub mod Played
 pub mod Verdict
+pub mod Written
 pub mod Causes
-pub mod Quiet
 pub mod Answers
 pub mod Work
 pub mod Said

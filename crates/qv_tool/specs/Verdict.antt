@@ -8,14 +8,16 @@ use Rattle.asm_link.specs.declared.fault.AsmFault.{AsmFault}
 use Rattle.asm_link.specs.declared.fault.AsmKind.TheVariants.{BadList}
 use Rattle.asm_link.specs.Link.{linked}
 use Rattle.qcc_front.specs.FirstForm.{unit_of}
-use Rattle.qcc_front.specs.Sum.{Sum}
+use Rattle.qcc_front.specs.Source.{SourceRun}
+use Rattle.qcc_front.specs.Sum.{Sum, sum_run}
 use Rattle.qv_tool.specs.declared.status.Status.{Status}
-use Rattle.qv_tool.specs.declared.status.Status.TheVariants.{Done, Usage, Missing, NotYet, Assembly, Image, Stopped, Budget, ReadFault, WriteFault, NoMemory}
+use Rattle.qv_tool.specs.declared.status.Status.TheVariants.{Usage, Missing, NotYet, Assembly, Image}
 use Rattle.qv_tool.specs.Assembly.{fault_text}
 use Rattle.qv_tool.specs.Damage.{damage_text}
 use Rattle.qv_tool.specs.Ending.{line}
 use Rattle.qv_tool.specs.Gathered.{Gathered, Found, Lacking, Overlong, gathered}
 use Rattle.qv_tool.specs.Names.{names_in}
+use Rattle.qv_tool.specs.Status.{End, kind_of}
 use Rattle.qv_tool.specs.Task.{Task, Compile, Assemble, AssembleList, Disassemble, Run, Build, task_of, text_name}
 use Rattle.qv_words.specs.Words.{Command}
 
@@ -32,25 +34,26 @@ pub data Verdict : Type 0 where
   Damaged : ImageFault → Verdict
   -- the assembly isn't linked, for this fault in the file of this name
   Unlinked : List ℕ → AsmFault → Verdict
-  -- the unit is compiled to a text of this name
-  Compiles : List ℕ → Sum → Verdict
+  -- the program is compiled to a text of this name
+  Compiles : List ℕ → SourceRun → Verdict
   -- the image is written as assembly to the file of this name
   Disassembles : List ℕ → Qvm → Verdict
   -- the assembly files are linked to the image of this name
   Links : List ℕ → Qvm → Verdict
   -- the image is called: the most steps of a call, the words of each call
   Runs : ℕ → List (List ℕ) → Qvm → Verdict
-  -- the unit is compiled and linked to the image of this name, which is called
-  Builds : ℕ → List (List ℕ) → List ℕ → Sum → Verdict
+  -- the program is compiled and linked to the image of this name, which is called
+  Builds : ℕ → List (List ℕ) → List ℕ → SourceRun → Verdict
 
 -- what a file's bytes call for, where they are held
 abbrev pub of_source : List ℕ → (List ℕ → Verdict) → Option (List ℕ) → Verdict
 of_source name go None = Absent name
 of_source name go (Some bytes) = if nat_lt (length bytes) (2 ^ 31) then go bytes else TooLong name
 
-abbrev pub of_unit : (Sum → Verdict) → Option Sum → Verdict
+-- what a unit calls for
+abbrev pub of_unit : (SourceRun → Verdict) → Option Sum → Verdict
 of_unit go None = Unready
-of_unit go (Some e) = go e
+of_unit go (Some e) = go (sum_run e)
 
 -- what the contents of several files call for
 abbrev pub of_gathered : (List (List ℕ) → Verdict) → Gathered → Verdict
@@ -137,29 +140,7 @@ refusal_of (Damaged fault) = refusal Image (codes "image: " ++ damage_text fault
 refusal_of (Unlinked file fault) = refusal Assembly (fault_text file fault.line fault.kind)
 refusal_of verdict = None
 
--- a fault of the outside, or one of memory, which may stand in place of what is called for
-abbrev pub IsFault : Status → Type 0
-IsFault ReadFault = Unit {0}
-IsFault WriteFault = Unit {0}
-IsFault NoMemory = Unit {0}
-IsFault status = ⊥
-
-abbrev pub IsRefusal : Status → Type 0
-IsRefusal Usage = Unit {0}
-IsRefusal NotYet = Unit {0}
-IsRefusal Missing = Unit {0}
-IsRefusal Assembly = Unit {0}
-IsRefusal Image = Unit {0}
-IsRefusal status = ⊥
-
--- the command came to its end
-abbrev pub IsEnd : Status → Type 0
-IsEnd Done = Unit {0}
-IsEnd Stopped = Unit {0}
-IsEnd Budget = Unit {0}
-IsEnd status = ⊥
-
 -- the status that is called for: that of the refusal, or one of an end
 abbrev pub IsCalledFor : Option Refusal → Status → Type 0
-IsCalledFor None status = IsEnd status
+IsCalledFor None status = kind_of status ≡ End
 IsCalledFor (Some r) status = status ≡ r.status

@@ -1,6 +1,7 @@
 // Reading several files.
-ghost use Rattle.std.specs.Prelude.{◌≡◌, ◌≤◌, IfOk, IfSome, length, map, string_bytes};
-ghost use Rattle.qv_tool.specs.Work.{Gathers, HasCount, RefusesUnread};
+ghost use Rattle.std.specs.Prelude.{◌≡◌, ◌≤◌, IfOk, length, map, string_bytes};
+ghost use Rattle.qv_tool.specs.Work.{Gathers, HasCount};
+ghost use Rattle.qv_tool.specs.World.{keeper_of};
 
 use crate::report::{Report, unread};
 use asm_link::fault::AsmFile;
@@ -19,9 +20,8 @@ pub enum Sources {
 /// Reads the files of these names in order, up to the first that is refused. No file changes.
 pub fn gather<F: Files>(alloc: Global, names: &[String], files: &mut F) -> Result<Sources, NoMemory>
     ensures same { F.held files.new ≡ F.held files.old }
-    ensures gathers { IfSome (F.held files.old) (λ held. Gathers held (F.failed files.new) (map string_bytes names.now) result) }
+    ensures gathers { Gathers (keeper_of F.Files files.old) (keeper_of F.Files files.new) (map string_bytes names.now) result }
     ensures count { IfOk result (λ sources. HasCount (length names.now) sources) }
-    ensures cause { IfOk result (RefusesUnread (F.read_faults files.old) (F.read_faults files.new)) }
     ensures reads_later { F.read_faults files.old ≤ F.read_faults files.new }
     ensures writes_stay { F.write_faults files.new ≡ F.write_faults files.old }
 {

@@ -1,11 +1,13 @@
 // Calling an image.
-ghost use Rattle.std.specs.Prelude.{◌≡◌, [], IfOk};
+ghost use Rattle.std.specs.Prelude.{◌≡◌};
 ghost use Rattle.qv_image.specs.Shown.{qvm_of};
-ghost use Rattle.vm_core.specs.Calls.{calls_run, image_run};
+ghost use Rattle.qv_outside.specs.Causes.{Rose};
+ghost use Rattle.vm_core.specs.CallsRan.{CallsRanTo};
 ghost use Rattle.vm_core.specs.Machine.{step};
 ghost use Rattle.vm_core.specs.Module.{code_of, state_of};
-ghost use Rattle.qv_tool.specs.Ending.{EndsBy, Tells};
-ghost use Rattle.qv_tool.specs.Quiet.{surroundings};
+ghost use Rattle.vm_core.specs.Ran.{outside};
+ghost use Rattle.qv_tool.specs.Played.{Plays};
+ghost use Rattle.qv_tool.specs.World.{around_of};
 
 use crate::report::{Report, calls_ended};
 use qv_base::NoMemory;
@@ -27,8 +29,9 @@ pub fn play<H: Host, O: Sink>(
     host: &mut H,
     out: &mut O,
 ) -> Result<Report, NoMemory>
-    ensures tells { IfOk result (λ report. Tells (image_run (qvm_of image.now) (H.table host.old) calls.now [] steps) report.status report.line.items) }
-    ensures quiet { surroundings (O.written out.new) (H.asked host.new) (H.replied host.new) (H.table host.new) (H.kept host.new) ≡ surroundings (O.written out.old) (H.asked host.old) (H.replied host.old) (H.table host.old) (H.kept host.old) }
+    ensures plays { Plays (qvm_of image.now) steps calls.now (around_of O.Sink H.Host out.old host.old) (around_of O.Sink H.Host out.new host.new) result }
+    ensures table { H.table host.new ≡ H.table host.old }
+    ensures kept { H.kept host.new ≡ H.kept host.old }
 {
     let mut machine = Module::load(alloc, image)?;
     let stop = make_calls(&mut machine, steps, calls, host, out);
@@ -44,8 +47,11 @@ fn make_calls<H: Host, O: Sink>(
     host: &mut H,
     out: &mut O,
 ) -> Stop
-    ensures stop { EndsBy (calls_run (step (code_of machine.old) (H.table host.old)) steps calls.now (state_of machine.old).memory []) result }
-    ensures quiet { surroundings (O.written out.new) (H.asked host.new) (H.replied host.new) (H.table host.new) (H.kept host.new) ≡ surroundings (O.written out.old) (H.asked host.old) (H.replied host.old) (H.table host.old) (H.kept host.old) }
+    ensures ran { CallsRanTo (step (code_of machine.old) (H.table host.old)) steps calls.now (state_of machine.old).memory (outside (H.asked host.old) (H.replied host.old) (O.written out.old)) (outside (H.asked host.new) (H.replied host.new) (O.written out.new)) result }
+    ensures host_cause { result ≡ Stop.HostFault → Rose (H.faults host.old) (H.faults host.new) }
+    ensures out_cause { result ≡ Stop.OutFault → Rose (O.faults out.old) (O.faults out.new) }
+    ensures table { H.table host.new ≡ H.table host.old }
+    ensures kept { H.kept host.new ≡ H.kept host.old }
 {
     let mut last = 0;
     for args in calls {

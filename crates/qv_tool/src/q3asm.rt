@@ -1,10 +1,10 @@
 // The command q3asm: links assembly files to an image.
 ghost use Rattle.std.specs.Prelude.{◌≡◌, ◌<◌, ◌^◌, IfOk, IfSome, Some, length, map, string_bytes};
-ghost use Rattle.qv_outside.specs.Hosts.{Table};
-ghost use Rattle.qv_tool.specs.Causes.{IsServed, keeper};
+ghost use Rattle.qv_tool.specs.Causes.{IsServed};
 ghost use Rattle.qv_tool.specs.Task.{AssembleList, task_of};
 ghost use Rattle.qv_tool.specs.Verdict.{name_at};
 ghost use Rattle.qv_tool.specs.Work.{Asks, Works, SaysUnlinked};
+ghost use Rattle.qv_tool.specs.World.{Surroundings, keeper_of, world};
 ghost use Rattle.qv_words.specs.Words.{Command};
 
 use crate::gather::{Sources, gather};
@@ -27,7 +27,7 @@ pub fn q3asm<F: Files>(
     files: &mut F,
 ) -> Result<Report, NoMemory>
     requires { length names.now < 2 ^ 32 }
-    ensures { (table : Table) (c : Command) → IsServed (Some c) → IfSome (F.held files.old) (Asks c image.now (map string_bytes names.now)) → Works table (Some c) (keeper (F.held files.old) (F.failed files.old) (F.read_faults files.old) (F.write_faults files.old)) (keeper (F.held files.new) (F.failed files.new) (F.read_faults files.new) (F.write_faults files.new)) result }
+    ensures { (around : Surroundings) (c : Command) → IsServed (Some c) → IfSome (F.held files.old) (Asks c image.now (map string_bytes names.now)) → Works (Some c) (world (keeper_of F.Files files.old) around) (world (keeper_of F.Files files.new) around) result }
 {
     let texts = match gather(alloc, names, files)? {
         Sources::Texts(texts) => texts,
@@ -48,7 +48,7 @@ pub fn q3asm_list<F: Files>(
     list: &str,
     files: &mut F,
 ) -> Result<Report, NoMemory>
-    ensures { (table : Table) (c : Command) → task_of c ≡ Some (AssembleList image.now list.now) → Works table (Some c) (keeper (F.held files.old) (F.failed files.old) (F.read_faults files.old) (F.write_faults files.old)) (keeper (F.held files.new) (F.failed files.new) (F.read_faults files.new) (F.write_faults files.new)) result }
+    ensures { (around : Surroundings) (c : Command) → task_of c ≡ Some (AssembleList image.now list.now) → Works (Some c) (world (keeper_of F.Files files.old) around) (world (keeper_of F.Files files.new) around) result }
 {
     let bytes = match files.read(alloc, list) {
         Ok(bytes) => bytes,

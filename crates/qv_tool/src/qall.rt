@@ -1,12 +1,12 @@
 // The command qall: compiles a unit, links it, writes its image and makes the calls.
 ghost use Rattle.std.specs.Prelude.{◌≡◌, IfOk, Some};
 ghost use Rattle.qv_image.specs.Shown.{qvm_of};
-ghost use Rattle.qcc_front.specs.Assembles.{Assembles};
+ghost use Rattle.qcc_front.specs.Sum.{sum_run};
 ghost use Rattle.qcc_front.specs.Unit.{sum_of};
-ghost use Rattle.qv_tool.specs.Causes.{keeper};
-ghost use Rattle.qv_tool.specs.Quiet.{surroundings};
+ghost use Rattle.qv_tool.specs.Built.{IsBuilt};
 ghost use Rattle.qv_tool.specs.Task.{Build, task_of};
-ghost use Rattle.qv_tool.specs.Work.{IsBuilt, Works};
+ghost use Rattle.qv_tool.specs.Work.{Works};
+ghost use Rattle.qv_tool.specs.World.{world_of};
 ghost use Rattle.qv_words.specs.Calls.{AreCalls};
 ghost use Rattle.qv_words.specs.Words.{Command};
 
@@ -39,8 +39,8 @@ pub fn qall<F: Files, O: Sink, H: Host>(
     host: &mut H,
 ) -> Result<Report, NoMemory>
     requires { AreCalls calls.now }
-    ensures works { (c : Command) → task_of c ≡ Some (Build steps calls.now image.now unit.now) → Works (H.table host.old) (Some c) (keeper (F.held files.old) (F.failed files.old) (F.read_faults files.old) (F.write_faults files.old)) (keeper (F.held files.new) (F.failed files.new) (F.read_faults files.new) (F.write_faults files.new)) result }
-    ensures quiet { surroundings (O.written out.new) (H.asked host.new) (H.replied host.new) (H.table host.new) (H.kept host.new) ≡ surroundings (O.written out.old) (H.asked host.old) (H.replied host.old) (H.table host.old) (H.kept host.old) }
+    ensures works { (c : Command) → task_of c ≡ Some (Build steps calls.now image.now unit.now) → Works (Some c) (world_of F.Files O.Sink H.Host files.old out.old host.old) (world_of F.Files O.Sink H.Host files.new out.new host.new) result }
+    ensures kept { H.kept host.new ≡ H.kept host.old }
 {
     let source = match files.read(alloc, unit) {
         Ok(source) => source,
@@ -59,7 +59,7 @@ pub fn qall<F: Files, O: Sink, H: Host>(
 
 // The image that the unit's text is linked to.
 fn build(alloc: Global, unit: &Unit) -> Result<Image, NoMemory>
-    ensures { IfOk result (λ image. IsBuilt (sum_of unit.now) (qvm_of image)) }
+    ensures { IfOk result (λ image. IsBuilt (sum_run (sum_of unit.now)) (qvm_of image)) }
 {
     let text = compile(alloc, unit)?;
     let name = Name::from_bytes(alloc, b"vmMain")?;

@@ -1,9 +1,11 @@
 // The command qcc: compiles a unit to assembly text.
 ghost use Rattle.std.specs.Prelude.{◌≡◌, IfOk, Some, string_bytes};
-ghost use Rattle.qv_outside.specs.Hosts.{Table};
-ghost use Rattle.qv_tool.specs.Causes.{keeper};
+ghost use Rattle.qcc_front.specs.Sum.{sum_run};
+ghost use Rattle.qcc_front.specs.Unit.{sum_of};
+ghost use Rattle.qv_tool.specs.Built.{Assembles};
 ghost use Rattle.qv_tool.specs.Task.{Compile, task_of, text_name};
 ghost use Rattle.qv_tool.specs.Work.{Works};
+ghost use Rattle.qv_tool.specs.World.{Surroundings, keeper_of, world};
 ghost use Rattle.qv_words.specs.Words.{Command};
 
 use crate::report::{Report, not_yet, unread};
@@ -22,7 +24,7 @@ pub fn qcc<F: Files>(
     unit: &str,
     files: &mut F,
 ) -> Result<Report, NoMemory>
-    ensures { (table : Table) (c : Command) → task_of c ≡ Some (Compile folder.now unit.now) → Works table (Some c) (keeper (F.held files.old) (F.failed files.old) (F.read_faults files.old) (F.write_faults files.old)) (keeper (F.held files.new) (F.failed files.new) (F.read_faults files.new) (F.write_faults files.new)) result }
+    ensures { (around : Surroundings) (c : Command) → task_of c ≡ Some (Compile folder.now unit.now) → Works (Some c) (world (keeper_of F.Files files.old) around) (world (keeper_of F.Files files.new) around) result }
 {
     let source = match files.read(alloc, unit) {
         Ok(source) => source,
@@ -31,9 +33,16 @@ pub fn qcc<F: Files>(
     let Some(parsed) = Unit::parse(alloc, &source)? else {
         return not_yet(alloc);
     };
-    let text = compile(alloc, &parsed)?;
+    let text = compiled(alloc, &parsed)?;
     let name = text_name(alloc, folder, unit)?;
     deliver(alloc, files, name.as_str(), &text)
+}
+
+// The unit's text.
+fn compiled(alloc: Global, unit: &Unit) -> Result<Vec<u8>, NoMemory>
+    ensures { IfOk result (λ text. Assembles (sum_run (sum_of unit.now)) text.items) }
+{
+    compile(alloc, unit)
 }
 
 // The name of the unit's text.

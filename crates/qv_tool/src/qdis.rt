@@ -1,9 +1,8 @@
 // The command qdis: writes an image as assembly.
 ghost use Rattle.std.specs.Prelude.{◌≡◌, Some};
-ghost use Rattle.qv_outside.specs.Hosts.{Table};
-ghost use Rattle.qv_tool.specs.Causes.{keeper};
 ghost use Rattle.qv_tool.specs.Task.{Disassemble, task_of};
 ghost use Rattle.qv_tool.specs.Work.{Works};
+ghost use Rattle.qv_tool.specs.World.{Surroundings, keeper_of, world};
 ghost use Rattle.qv_words.specs.Words.{Command};
 
 use crate::damaged::damaged;
@@ -22,7 +21,7 @@ pub fn qdis<F: Files>(
     file: &str,
     files: &mut F,
 ) -> Result<Report, NoMemory>
-    ensures { (table : Table) (c : Command) → task_of c ≡ Some (Disassemble image.now file.now) → Works table (Some c) (keeper (F.held files.old) (F.failed files.old) (F.read_faults files.old) (F.write_faults files.old)) (keeper (F.held files.new) (F.failed files.new) (F.read_faults files.new) (F.write_faults files.new)) result }
+    ensures { (around : Surroundings) (c : Command) → task_of c ≡ Some (Disassemble image.now file.now) → Works (Some c) (world (keeper_of F.Files files.old) around) (world (keeper_of F.Files files.new) around) result }
 {
     let bytes = match files.read(alloc, image) {
         Ok(bytes) => bytes,

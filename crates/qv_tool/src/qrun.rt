@@ -1,9 +1,8 @@
 // The command qrun: calls an image.
 ghost use Rattle.std.specs.Prelude.{◌≡◌, Some};
-ghost use Rattle.qv_tool.specs.Causes.{keeper};
-ghost use Rattle.qv_tool.specs.Quiet.{surroundings};
 ghost use Rattle.qv_tool.specs.Task.{Run, task_of};
 ghost use Rattle.qv_tool.specs.Work.{Works};
+ghost use Rattle.qv_tool.specs.World.{world_of};
 ghost use Rattle.qv_words.specs.Words.{Command};
 
 use crate::damaged::damaged;
@@ -27,8 +26,8 @@ pub fn qrun<F: Files, O: Sink, H: Host>(
     out: &mut O,
     host: &mut H,
 ) -> Result<Report, NoMemory>
-    ensures works { (c : Command) → task_of c ≡ Some (Run steps calls.now image.now) → Works (H.table host.old) (Some c) (keeper (F.held files.old) (F.failed files.old) (F.read_faults files.old) (F.write_faults files.old)) (keeper (F.held files.new) (F.failed files.new) (F.read_faults files.new) (F.write_faults files.new)) result }
-    ensures quiet { surroundings (O.written out.new) (H.asked host.new) (H.replied host.new) (H.table host.new) (H.kept host.new) ≡ surroundings (O.written out.old) (H.asked host.old) (H.replied host.old) (H.table host.old) (H.kept host.old) }
+    ensures works { (c : Command) → task_of c ≡ Some (Run steps calls.now image.now) → Works (Some c) (world_of F.Files O.Sink H.Host files.old out.old host.old) (world_of F.Files O.Sink H.Host files.new out.new host.new) result }
+    ensures kept { H.kept host.new ≡ H.kept host.old }
 {
     let bytes = match files.read(alloc, image) {
         Ok(bytes) => bytes,

@@ -1,6 +1,6 @@
 // Reports: a status and the line that tells it.
 ghost use Rattle.std.specs.Prelude.{◌≡◌, ◌++◌, IfOk, codes, string_bytes};
-ghost use Rattle.qv_tool.specs.Ending.{line, stop_line, stop_status, stop_text};
+ghost use Rattle.qv_tool.specs.Ending.{Tells, line, stop_status, stop_text};
 ghost use Rattle.qv_tool.specs.Work.{Says, SaysUnread};
 
 use crate::status::Status;
@@ -80,20 +80,10 @@ pub fn write_fault(alloc: Global, name: &str) -> Result<Report, NoMemory>
 
 /// The calls came to their end by this stop.
 pub fn calls_ended(alloc: Global, stop: Stop) -> Result<Report, NoMemory>
-    ensures { IfOk result (λ report. Says (stop_status stop) (stop_line stop) report) }
+    ensures { IfOk result (λ report. Tells stop report.status report.line.items) }
 {
-    let line = match stop {
-        Stop::Returned(word) => format!(in alloc; "returned {}\n", word.cast_signed())?,
-        Stop::Budget => format!(in alloc; "budget used\n")?,
-        _ => {
-            let text = stop_text(alloc, stop)?;
-            format!(in alloc; "stopped: {text}\n")?
-        }
-    };
-    Ok(Report {
-        status: stop_status(stop),
-        line: line.into_bytes(),
-    })
+    let text = stop_text(alloc, stop)?;
+    say(alloc, stop_status(stop), text.as_str())
 }
 
 fn stop_status(stop: Stop) -> Status
@@ -102,6 +92,8 @@ fn stop_status(stop: Stop) -> Status
     match stop {
         Stop::Returned(_) => Status::Done,
         Stop::Budget => Status::Budget,
+        Stop::HostFault => Status::HostFault,
+        Stop::OutFault => Status::WriteFault,
         _ => Status::Stopped,
     }
 }
@@ -110,24 +102,24 @@ fn stop_text(alloc: Global, stop: Stop) -> Result<String, NoMemory>
     ensures { IfOk result (λ text. string_bytes text ≡ stop_text stop) }
 {
     match stop {
-        Stop::Returned(_) => copied(alloc, "returned"),
+        Stop::Returned(word) => Ok(format!(in alloc; "returned {}", word.cast_signed())?),
         Stop::Budget => copied(alloc, "budget used"),
-        Stop::ModuleError => copied(alloc, "module error"),
-        Stop::OperandOver => copied(alloc, "operand stack over"),
-        Stop::OperandUnder => copied(alloc, "operand stack under"),
-        Stop::StackOver => copied(alloc, "program stack over"),
-        Stop::StackUnder => copied(alloc, "program stack under"),
-        Stop::JumpOut(number) => Ok(format!(in alloc; "jump out {number}")?),
-        Stop::FellOff => copied(alloc, "fell off"),
-        Stop::DivideZero => copied(alloc, "divide zero"),
-        Stop::DivideOver => copied(alloc, "divide over"),
-        Stop::CopyRange => copied(alloc, "copy range"),
-        Stop::UnknownTrap(number) => Ok(format!(in alloc; "unknown trap {number}")?),
+        Stop::ModuleError => copied(alloc, "stopped: module error"),
+        Stop::OperandOver => copied(alloc, "stopped: operand stack over"),
+        Stop::OperandUnder => copied(alloc, "stopped: operand stack under"),
+        Stop::StackOver => copied(alloc, "stopped: program stack over"),
+        Stop::StackUnder => copied(alloc, "stopped: program stack under"),
+        Stop::JumpOut(number) => Ok(format!(in alloc; "stopped: jump out {number}")?),
+        Stop::FellOff => copied(alloc, "stopped: fell off"),
+        Stop::DivideZero => copied(alloc, "stopped: divide zero"),
+        Stop::DivideOver => copied(alloc, "stopped: divide over"),
+        Stop::CopyRange => copied(alloc, "stopped: copy range"),
+        Stop::UnknownTrap(number) => Ok(format!(in alloc; "stopped: unknown trap {number}")?),
         Stop::TrapRange { number, argument } => {
-            Ok(format!(in alloc; "trap {number} argument {argument} outside")?)
+            Ok(format!(in alloc; "stopped: trap {number} argument {argument} outside")?)
         }
         Stop::HostFault => copied(alloc, "host fault"),
-        Stop::OutFault => copied(alloc, "out fault"),
+        Stop::OutFault => copied(alloc, "write fault: out"),
     }
 }
 

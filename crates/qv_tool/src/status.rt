@@ -21,8 +21,10 @@ pub enum Status {
     Missing,
     /// A read of a file failed.
     ReadFault,
-    /// A write of a file, or of the line that ends the call, failed.
+    /// A write of a file, or a put to the output or of the line that ends the call, failed.
     WriteFault,
+    /// The host failed to answer a call.
+    HostFault,
     /// Memory was refused.
     NoMemory,
     /// The command or the file is of a form that isn't served yet.
@@ -43,6 +45,7 @@ pub fn status_code(status: &Status) -> u8
         Status::Missing => 7,
         Status::ReadFault => 8,
         Status::WriteFault => 9,
+        Status::HostFault => 10,
         Status::NoMemory => 11,
         Status::NotYet => 12,
     }

@@ -1,10 +1,8 @@
 // Writing the file of a command.
-ghost use Rattle.std.specs.Prelude.{◌≡◌, IfOk, IfSome};
-ghost use Rattle.qv_outside.specs.Causes.{Rose};
-ghost use Rattle.qv_tool.specs.Work.{Delivers, IsDelivered, Stores};
+ghost use Rattle.qv_tool.specs.Work.{Delivers, Stores};
+ghost use Rattle.qv_tool.specs.World.{keeper_of};
 
 use crate::report::{Report, done, write_fault};
-use crate::status::Status;
 use qv_base::NoMemory;
 use qv_outside::files::{Files, WriteFault};
 use std::alloc::Global;
@@ -16,8 +14,7 @@ pub fn store<F: Files>(
     name: &str,
     bytes: &[u8],
 ) -> Result<Option<Report>, NoMemory>
-    ensures stores { IfSome (F.held files.old) (λ held. Stores held (F.held files.new) (F.failed files.new) name.now bytes.now result) }
-    ensures cause { IfOk result (λ report. IfSome report (λ fault. (fault.status ≡ Status.WriteFault) × Rose (F.write_faults files.old) (F.write_faults files.new))) }
+    ensures { Stores (keeper_of F.Files files.old) (keeper_of F.Files files.new) name.now bytes.now result }
 {
     // Made before the write: where memory is refused no name may hold a part of the file.
     let fault = write_fault(alloc, name)?;
@@ -35,8 +32,7 @@ pub fn deliver<F: Files>(
     name: &str,
     bytes: &[u8],
 ) -> Result<Report, NoMemory>
-    ensures delivers { IfSome (F.held files.old) (λ held. Delivers held (F.held files.new) (F.failed files.new) name.now bytes.now result) }
-    ensures cause { IfOk result (λ report. IsDelivered (F.write_faults files.old) (F.write_faults files.new) report.status) }
+    ensures { Delivers (keeper_of F.Files files.old) (keeper_of F.Files files.new) name.now bytes.now result }
 {
     let report = done(alloc)?;
     match store(alloc, files, name, bytes)? {

@@ -1,14 +1,15 @@
 // The top call.
-ghost use Rattle.std.specs.Prelude.{◌≡◌, ◌⊎◌, ◌++◌, map, option_map, string_bytes, IfOk, IfSome, Some, None, codes};
+ghost use Rattle.std.specs.Prelude.{◌≡◌, ◌⊎◌, ◌++◌, map, string_bytes, IfSome, Some, None, codes};
 ghost use Rattle.qv_outside.specs.Causes.{Rose};
 ghost use Rattle.qv_outside.specs.Told.{Appends};
-ghost use Rattle.qv_tool.specs.Answers.{Completed, LineFailed, ReadFailed, Refused, WriteFailed, Wrote};
-ghost use Rattle.qv_tool.specs.Causes.{IsUnserved, MayBeUnready, keeper};
+ghost use Rattle.qv_tool.specs.Answers.{BreaksOff, Completed, LineFailed, ReadFailed, Refused, WriteFailed};
+ghost use Rattle.qv_tool.specs.Causes.{IsSilent, IsUnserved, MayBeUnready};
 ghost use Rattle.qv_tool.specs.Ending.{line};
-ghost use Rattle.qv_tool.specs.Quiet.{surroundings};
 ghost use Rattle.qv_tool.specs.Said.{IsAnswered, Said};
-ghost use Rattle.qv_tool.specs.Verdict.{IsCalledFor, IsEnd, IsFault, IsRefusal, refusal_of, verdict};
+ghost use Rattle.qv_tool.specs.Status.{End, Fault, Refusal, Want, kind_of};
+ghost use Rattle.qv_tool.specs.Verdict.{IsCalledFor, refusal_of, verdict};
 ghost use Rattle.qv_tool.specs.Work.{Works};
+ghost use Rattle.qv_tool.specs.World.{around_of, world_of};
 ghost use Rattle.qv_words.specs.Shown.{KeepsLimits, command_shown};
 ghost use Rattle.qv_words.specs.Words.{reading};
 
@@ -42,12 +43,13 @@ pub fn tool<F: Files, O: Sink, E: Sink, H: Host>(
     host: &mut H,
 ) -> Status
     // The status is that of the refusal that the words and the files call for; where they call for none
-    // it is one of an end. A fault may stand in its place.
-    ensures exact { IfSome (F.held files.old) (λ held. IsCalledFor (refusal_of (verdict held (reading (map string_bytes words.now)))) result ⊎ IsFault result) }
+    // it is one of an end. A fault may stand in its place, and so may want of memory.
+    ensures exact { IfSome (F.held files.old) (λ held. IsCalledFor (refusal_of (verdict held (reading (map string_bytes words.now)))) result ⊎ (kind_of result ≡ Fault ⊎ kind_of result ≡ Want)) }
 
-    // At an end the command's file is written whole and all other names hold what they held. The image
-    // that qall wrote follows the unit. The line tells how the calls ended.
-    ensures completed { IfSome (F.held files.old) (λ held. IsEnd result → Completed (H.table host.old) (reading (map string_bytes words.now)) held (F.held files.new) result (E.written err.old) (E.written err.new)) }
+    // At an end the command's files are written whole and all other names hold what they held. The image
+    // that qall wrote follows the program. What was printed and asked is that of the image's calls, over the
+    // replies that the host gave, and the line tells how they ended.
+    ensures completed { IfSome (F.held files.old) (λ held. kind_of result ≡ End → Completed (reading (map string_bytes words.now)) held (world_of F.Files O.Sink H.Host files.old out.old host.old) (world_of F.Files O.Sink H.Host files.new out.new host.new) result (E.written err.old) (E.written err.new)) }
 
     // Usage comes exactly for words that stand for no command, and not yet for a command of a form that isn't
     // served yet, also where the files aren't told. In its place the put of the line may fail, or memory be refused.
@@ -56,28 +58,31 @@ pub fn tool<F: Files, O: Sink, E: Sink, H: Host>(
     ensures not_yet { result ≡ Status.NotYet → MayBeUnready (reading (map string_bytes words.now)) }
     ensures unserved { IsUnserved (reading (map string_bytes words.now)) → IsAnswered Status.NotYet (E.faults err.old) (E.faults err.new) result }
 
-    // A refusal changes no file, and the line tells it.
-    ensures refused { IfSome (F.held files.old) (λ held. IsRefusal result → Refused (reading (map string_bytes words.now)) held (F.held files.new) result (E.written err.old) (E.written err.new)) }
+    // A refusal changes nothing, and the line tells it.
+    ensures refused { IfSome (F.held files.old) (λ held. kind_of result ≡ Refusal → Refused (reading (map string_bytes words.now)) held (world_of F.Files O.Sink H.Host files.old out.old host.old) (world_of F.Files O.Sink H.Host files.new out.new host.new) result (E.written err.old) (E.written err.new)) }
 
-    // A fault of reading comes only where the read of the command's file failed; its line has the name.
+    // A fault of reading comes only where the read of one of the command's files failed; its line has the name.
     ensures read_fault { result ≡ Status.ReadFault → Rose (F.read_faults files.old) (F.read_faults files.new) }
-    ensures read_failed { IfSome (F.held files.old) (λ held. result ≡ Status.ReadFault → ReadFailed (reading (map string_bytes words.now)) held (F.held files.new) (F.failed files.new) (E.written err.old) (E.written err.new)) }
+    ensures read_failed { IfSome (F.held files.old) (λ held. result ≡ Status.ReadFault → ReadFailed (reading (map string_bytes words.now)) held (world_of F.Files O.Sink H.Host files.old out.old host.old) (world_of F.Files O.Sink H.Host files.new out.new host.new) (E.written err.old) (E.written err.new)) }
 
-    // A fault of writing comes only where the write of the command's file failed, and then its line has the
-    // name, or where the put of the line failed.
-    ensures write_fault { result ≡ Status.WriteFault → Rose (F.write_faults files.old) (F.write_faults files.new) ⊎ Rose (E.faults err.old) (E.faults err.new) }
-    ensures write_failed { IfSome (F.held files.old) (λ held. result ≡ Status.WriteFault →
-        (Rose (F.write_faults files.old) (F.write_faults files.new) × WriteFailed (reading (map string_bytes words.now)) held (F.held files.new) (F.failed files.new) (E.written err.old) (E.written err.new))
-        ⊎ (Rose (E.faults err.old) (E.faults err.new) × LineFailed (H.table host.old) (reading (map string_bytes words.now)) held (F.held files.new) (F.failed files.new) (F.read_faults files.old) (F.read_faults files.new) (F.write_faults files.old) (F.write_faults files.new) (E.written err.old) (E.written err.new))) }
+    // A fault of writing comes only where the write of one of the command's files failed, and then its line has the
+    // name, where a put to the output failed, or where the put of the line failed.
+    ensures write_fault { result ≡ Status.WriteFault → Rose (F.write_faults files.old) (F.write_faults files.new) ⊎ (Rose (O.faults out.old) (O.faults out.new) ⊎ Rose (E.faults err.old) (E.faults err.new)) }
+    ensures write_failed { IfSome (F.held files.old) (λ held. result ≡ Status.WriteFault → WriteFailed (reading (map string_bytes words.now)) held (world_of F.Files O.Sink H.Host files.old out.old host.old) (world_of F.Files O.Sink H.Host files.new out.new host.new) (E.written err.old) (E.written err.new)
+        ⊎ (Completed (reading (map string_bytes words.now)) held (world_of F.Files O.Sink H.Host files.old out.old host.old) (world_of F.Files O.Sink H.Host files.new out.new host.new) result (E.written err.old) (E.written err.new)
+        ⊎ LineFailed (reading (map string_bytes words.now)) held (world_of F.Files O.Sink H.Host files.old out.old host.old) (world_of F.Files O.Sink H.Host files.new out.new host.new) (E.written err.old) (E.written err.new) (E.faults err.old) (E.faults err.new))) }
 
-    // Where memory is refused, the line says so, and each name holds what it held or its whole new bytes.
+    // A fault of the host comes only where it failed to answer a call.
+    ensures host_fault { result ≡ Status.HostFault → Rose (H.faults host.old) (H.faults host.new) }
+    ensures host_failed { IfSome (F.held files.old) (λ held. result ≡ Status.HostFault → Completed (reading (map string_bytes words.now)) held (world_of F.Files O.Sink H.Host files.old out.old host.old) (world_of F.Files O.Sink H.Host files.new out.new host.new) result (E.written err.old) (E.written err.new)) }
+
+    // Where memory is refused, the line says so, and each name holds what it held or its whole new bytes. Nothing was
+    // printed or asked, or only the line of the calls could not be made.
     ensures memory_line { result ≡ Status.NoMemory → Appends (E.written err.old) (E.written err.new) (line (codes "no memory")) }
-    ensures no_memory { IfSome (F.held files.old) (λ held. result ≡ Status.NoMemory → (F.held files.new ≡ Some held) ⊎ Wrote (verdict held (reading (map string_bytes words.now))) held (F.held files.new)) }
+    ensures no_memory { IfSome (F.held files.old) (λ held. result ≡ Status.NoMemory → BreaksOff (verdict held (reading (map string_bytes words.now))) held (around_of O.Sink H.Host out.old host.old) (world_of F.Files O.Sink H.Host files.new out.new host.new)) }
 
-    // Nothing is printed, and the host is asked nothing.
-    ensures out_quiet { O.written out.new ≡ O.written out.old }
-    ensures host_asked { H.asked host.new ≡ H.asked host.old }
-    ensures host_replied { H.replied host.new ≡ H.replied host.old }
+    // A command that calls no image, or ends before it calls one, prints nothing and asks the host nothing.
+    ensures quiet { IsSilent (reading (map string_bytes words.now)) result → around_of O.Sink H.Host out.new host.new ≡ around_of O.Sink H.Host out.old host.old }
     ensures host_table { H.table host.new ≡ H.table host.old }
     ensures host_kept { H.kept host.new ≡ H.kept host.old }
 {
@@ -95,8 +100,8 @@ fn work<F: Files, O: Sink, H: Host>(
     out: &mut O,
     host: &mut H,
 ) -> Result<Report, NoMemory>
-    ensures works { Works (H.table host.old) (reading (map string_bytes words.now)) (keeper (F.held files.old) (F.failed files.old) (F.read_faults files.old) (F.write_faults files.old)) (keeper (F.held files.new) (F.failed files.new) (F.read_faults files.new) (F.write_faults files.new)) result }
-    ensures quiet { surroundings (O.written out.new) (H.asked host.new) (H.replied host.new) (H.table host.new) (H.kept host.new) ≡ surroundings (O.written out.old) (H.asked host.old) (H.replied host.old) (H.table host.old) (H.kept host.old) }
+    ensures works { Works (reading (map string_bytes words.now)) (world_of F.Files O.Sink H.Host files.old out.old host.old) (world_of F.Files O.Sink H.Host files.new out.new host.new) result }
+    ensures kept { H.kept host.new ≡ H.kept host.old }
 {
     match read_words(alloc, words)? {
         Some(command) => serve(alloc, &command, files, out, host),
@@ -113,8 +118,8 @@ fn serve<F: Files, O: Sink, H: Host>(
     host: &mut H,
 ) -> Result<Report, NoMemory>
     requires { KeepsLimits command.now }
-    ensures works { Works (H.table host.old) (Some (command_shown command.now)) (keeper (F.held files.old) (F.failed files.old) (F.read_faults files.old) (F.write_faults files.old)) (keeper (F.held files.new) (F.failed files.new) (F.read_faults files.new) (F.write_faults files.new)) result }
-    ensures quiet { surroundings (O.written out.new) (H.asked host.new) (H.replied host.new) (H.table host.new) (H.kept host.new) ≡ surroundings (O.written out.old) (H.asked host.old) (H.replied host.old) (H.table host.old) (H.kept host.old) }
+    ensures works { Works (Some (command_shown command.now)) (world_of F.Files O.Sink H.Host files.old out.old host.old) (world_of F.Files O.Sink H.Host files.new out.new host.new) result }
+    ensures kept { H.kept host.new ≡ H.kept host.old }
 {
     match command {
         Command::Qcc {

@@ -4,6 +4,9 @@
 ghost use Rattle.std.specs.Prelude.{◌≡◌, ◌+◌, ◌<◌, ◌≤◌, ◌^◌, drop, length, map, string_bytes, take, IfOk, OnOk};
 ghost use Rattle.qv_tool.specs.Own.{own_place};
 
+#[cfg(test)]
+mod tests;
+
 use qv_adapt::disk_files::DiskFiles;
 use qv_adapt::real_clock_host::RealClockHost;
 use qv_adapt::std_sink::StdSink;

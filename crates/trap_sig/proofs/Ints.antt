@@ -27,11 +27,10 @@ ints_at kinds words i false lt same e =
 pushed : (ints rest all : List ℕ) (count w : ℕ) → count < length ints → take count ints ++ w ∷ rest ≡ all → take (count + 1) (set ints count w) ++ rest ≡ all
 pushed ints rest all count w room h = ap (λ (x : List ℕ). x ++ rest) (take_more_set ints count w room) ∙ append_assoc (take count ints) (w ∷ []) rest ∙ h
 
-zeros_left : (ints : List ℕ) (count w : ℕ) → drop count ints ≡ replicate (14 - count) 0 → drop (count + 1) (set ints count w) ≡ replicate (14 - (count + 1)) 0
-zeros_left ints count w h =
-    let n : 14 - count - 1 ≡ 14 - (count + 1) = omega arith in
-    let one : drop 1 (drop count ints) ≡ replicate (14 - (count + 1)) 0 = ap (λ (x : List ℕ). drop 1 x) h ∙ drop-replicate 1 (14 - count) 0 ∙ ap (λ m. replicate m 0) n in
-    drop-set-lt (count + 1) ints count w (omega arith) ∙ sym (drop-drop 1 count ints) ∙ one
+zeros_left : (ints : List ℕ) (most count w : ℕ) → drop count ints ≡ replicate (most - count) 0 → drop (count + 1) (set ints count w) ≡ replicate (most - (count + 1)) 0
+zeros_left ints most count w h =
+    let n : most - count - 1 ≡ most - (count + 1) = omega arith in
+    drop-set-lt (count + 1) ints count w (omega arith) ∙ sym (drop-drop 1 count ints) ∙ ap (λ (x : List ℕ). drop 1 x) h ∙ drop-replicate 1 (most - count) 0 ∙ ap (λ m. replicate m 0) n
 
 -- an Int comes behind those that were gathered
 pub int_comes : (kinds : List Kind) (words ints : List ℕ) (count i : ℕ) → length kinds ≤ 14 → i < length kinds → length words ≡ length kinds → is_int (get_or kinds i Int) ≡ true → Gathering kinds words ints count i → Gathering kinds words (set ints count (get_or words i 0)) (count + 1) (i + 1)
@@ -43,7 +42,7 @@ int_comes kinds words ints count i most lt same is g =
       few = omega (arith, g.few);
       long = length-set ints count w ∙ g.long;
       taken = pushed ints rest _ count w room (ap (λ (x : List ℕ). take count ints ++ x) (sym (ints_at kinds words i true lt same is)) ∙ g.taken);
-      zeros = zeros_left ints count w g.zeros;
+      zeros = zeros_left ints 14 count w g.zeros;
     }
 
 -- another argument is passed over
