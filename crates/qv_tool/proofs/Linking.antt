@@ -1,27 +1,23 @@
 -- The files that are linked, by the words or by a list.
 use Rattle.std.proofs.Common.{◌≡◌, ◌≤◌, ℕ, List, [], ◌∷◌, Option, Some, Ok, Err, inl, inr, refl, sym, ap, ◌∙◌, subst, arith}
-use Rattle.std.specs.Prelude.{Contains, Result, IfOk, IfSome}
+use Rattle.std.specs.Prelude.{Contains, Result, IfSome}
 use Rattle.std.specs.Global.{Vec}
 use Rattle.std.proofs.lemmas.List.Elements.{Contains-append_right}
 use Rattle.qv_base.specs.declared.NoMemory.{NoMemory as Wanting}
 use Rattle.qv_outside.specs.Causes.{Rose}
 use Rattle.qv_outside.specs.FileMap.{FileMap, Reads, ReadGives, content}
-use Rattle.asm_link.specs.declared.fault.AsmKind.TheVariants.{BadList}
 use Rattle.qv_tool.specs.declared.report.Report.{Report}
 use Rattle.qv_tool.specs.declared.status.Status.{Status}
 use Rattle.qv_tool.specs.declared.status.Status.TheVariants.{Done, Usage, Missing, NotYet, Assembly, Image, Stopped, Budget, ReadFault, WriteFault, HostFault, NoMemory}
 use Rattle.qv_tool.specs.Answers.{Reports}
-use Rattle.qv_tool.specs.Assembly.{fault_text}
 use Rattle.qv_tool.specs.Causes.{HasCause}
 use Rattle.qv_tool.specs.Ending.{line}
 use Rattle.qv_tool.specs.Names.{names_in}
 use Rattle.qv_tool.specs.Task.{Task, Assemble, AssembleList, task_of}
-use Rattle.qv_tool.specs.Verdict.{Unlinked, listed, listed_in, of_list, of_task, read_for, verdict}
-use Rattle.qv_tool.specs.Work.{Asks, Leaves, Says, Works}
+use Rattle.qv_tool.specs.Verdict.{listed, listed_in, of_list, of_task, read_for, verdict}
+use Rattle.qv_tool.specs.Work.{Asks, Leaves, Works}
 use Rattle.qv_tool.specs.World.{Keeper, Surroundings, world}
-use Rattle.qv_tool.proofs.Refusing.{served_by}
 use Rattle.qv_tool.proofs.Told.{along, along_both, if_told, read_gives, read_goes, read_stays, told_before}
-use Rattle.qv_tool.proofs.Working.{refused_works}
 use Rattle.qv_words.specs.Words.{Command}
 
 -- files that the words name

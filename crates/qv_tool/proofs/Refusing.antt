@@ -1,5 +1,5 @@
 -- Images and assembly that are refused.
-use Rattle.std.proofs.Common.{◌≡◌, ℕ, List, ◌++◌, Option, Some, None, Ok, Err, inl, inr, refl, sym, ap, ◌∙◌, subst, ⊎_elim, is_some}
+use Rattle.std.proofs.Common.{◌≡◌, ℕ, List, ◌++◌, Some, Ok, Err, inl, inr, refl, sym, ap, ◌∙◌, ⊎_elim, is_some}
 use Rattle.std.specs.Prelude.{Contains, Result, IfOk, IfSome, codes, ◌⊎◌}
 use Rattle.qv_base.specs.declared.NoMemory.{NoMemory as Wanting}
 use Rattle.qv_image.specs.Image.{Qvm}
@@ -14,17 +14,17 @@ use Rattle.asm_link.specs.declared.fault.AsmFault.{AsmFault}
 use Rattle.asm_link.specs.declared.fault.AsmKind.{AsmKind}
 use Rattle.asm_link.specs.declared.fault.AsmKind.TheVariants.{NoMemory as LinkNoMemory}
 use Rattle.qv_tool.specs.declared.report.Report.{Report}
-use Rattle.qv_tool.specs.declared.status.Status.TheVariants.{Assembly, Image, Missing, NotYet}
+use Rattle.qv_tool.specs.declared.status.Status.TheVariants.{Assembly, Image, Missing}
 use Rattle.qv_tool.specs.Assembly.{fault_text}
-use Rattle.qv_tool.specs.Causes.{IsServed, ReadsUnit}
+use Rattle.qv_tool.specs.Causes.{IsServed}
 use Rattle.qv_tool.specs.Damage.{damage_text}
 use Rattle.qv_tool.specs.Ending.{line}
 use Rattle.qv_tool.specs.Gathered.{Found, Lacking, Overlong, gathered}
 use Rattle.qv_tool.specs.Task.{Task, task_of}
-use Rattle.qv_tool.specs.Verdict.{Verdict, Absent, Damaged, TooLong, Unlinked, Unready, name_at, of_gathered, of_linked, of_task, read_for, verdict}
+use Rattle.qv_tool.specs.Verdict.{Verdict, Absent, Damaged, TooLong, Unlinked, name_at, of_gathered, of_linked, read_for, verdict}
 use Rattle.qv_tool.specs.Work.{Asks, IsRefused, Says, SaysDamaged, SaysUnlinked, Works}
 use Rattle.qv_tool.specs.World.{Keeper, Surroundings, world}
-use Rattle.qv_tool.proofs.Told.{along, along_both, if_told, verdict_on}
+use Rattle.qv_tool.proofs.Told.{along, along_both, verdict_on}
 use Rattle.qv_tool.proofs.Working.{read_failed_works, refused_works, unwritten_works}
 use Rattle.qv_words.specs.Words.{Command}
 
