@@ -13,6 +13,6 @@ pub mod Settling
 pub mod Pausing
 pub mod Rows
 pub mod Quiet
-pub mod QuietCalls
+pub mod LongerCalls
 pub mod CallsRanLaws
 pub mod Pieces

@@ -1,13 +1,10 @@
 -- The size of a block.
-use Rattle.std.proofs.Common.{◌≡◌, ℕ, zero, suc, ◌+◌, ◌-◌, ◌*◌, ◌^◌, ◌<◌, ◌≤◌, ◌++◌, length, replicate, ⊎_elim, refl, sym, ap, ◌∙◌, subst, arith, length-append}
+use Rattle.std.proofs.Common.{◌≡◌, ℕ, zero, suc, ◌+◌, ◌-◌, ◌*◌, ◌^◌, ◌<◌, ◌≤◌, ⊎_elim, refl, sym, ap, ◌∙◌, subst, arith}
 use Rattle.std.proofs.lemmas.Bool.{cases_lt}
 use Rattle.std.proofs.lemmas.Bool.Decides.{nat_tests}
-use Rattle.std.proofs.lemmas.List.{length-replicate}
 use Rattle.std.proofs.Math.Nat.{pow-succ'}
 use Rattle.masked_mem.specs.Memory.{IsSize}
 use Rattle.masked_mem.proofs.Sizes.{power-is_size}
-use Rattle.qv_image.specs.Image.{Qvm}
-use Rattle.vm_core.specs.Machine.{fresh_memory}
 use Rattle.vm_core.specs.Memory.{block_size, doubled}
 
 pub doubled_more : (k size need : ℕ) → size < need → doubled (suc k) size need ≡ doubled k (2 * size) need
@@ -69,12 +66,3 @@ doubled_holds (suc k) m need low sum small =
 -- the size of a block is one, and holds what it is for
 pub block_size-holds : (need : ℕ) → need ≤ 2 ^ 26 → Holds need (block_size need)
 block_size-holds need small = let P : ℕ → Type 0 = λ n. Holds need n in subst P (sym (block_size_is need)) (doubled_holds 20 6 need (omega arith) refl small)
-
--- a fresh block has the size for its image
-pub length-fresh_memory : (z : Qvm) → length z.data_part + length z.lit + z.bss ≤ 2 ^ 26 → length (fresh_memory z) ≡ block_size (length z.data_part + length z.lit + z.bss)
-length-fresh_memory z small =
-    let need = length z.data_part + length z.lit + z.bss in
-    let enough : need ≤ block_size need = (block_size-holds need small).enough in
-    let zeros : ℕ = block_size need - length (z.data_part ++ z.lit) in
-    let zero_byte : ℕ = 0 in
-    omega (arith, enough, length-append z.data_part z.lit, length-append (z.data_part ++ z.lit) (replicate zeros zero_byte), length-replicate zeros zero_byte)
