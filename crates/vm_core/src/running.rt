@@ -89,8 +89,6 @@ impl Module {
     /// Makes at most `n` steps: `host` answers traps, and `out` takes the text that is printed. It takes no memory. After
     /// `Stop::Budget` it goes on from there when it is run again; after any other stop it has to be
     /// started first.
-    // Not inlined: the loop is laid out the same wherever it is called from.
-    #[inline(never)]
     pub fn run<H: Host, O: Sink>(&mut self, n: u64, host: &mut H, out: &mut O) -> Stop
         requires ready { ready_of self.old ≡ true }
         ensures ran { Ran (step (code_of self.old) (H.table host.old)) n (state_of self.old) (state_of self.new) (outside (H.asked host.old) (H.replied host.old) (O.written out.old)) (outside (H.asked host.new) (H.replied host.new) (O.written out.new)) (outcome_of result) }
@@ -105,20 +103,16 @@ impl Module {
     {
         // Its size is asked for what is known of it then.
         let _ = self.block.size();
-        let mut words = self.words;
-        let mut registers = self.registers;
         let stop = run_steps(
             &self.code,
             &mut self.block,
             &mut self.room,
-            &mut words,
-            &mut registers,
+            &mut self.words,
+            &mut self.registers,
             n,
             host,
             out,
         );
-        self.words = words;
-        self.registers = registers;
         self.ready = matches!(stop, Stop::Budget);
         stop
     }
@@ -189,9 +183,31 @@ fn run_steps<H: Host, O: Sink>(
     Stop::Budget
 }
 
-// Plain instructions, as long as steps are left, counted down to make the loop short. The instruction that doesn't go
-// on isn't counted.
+// Plain instructions, as long as steps are left. The instruction that doesn't go on isn't counted.
+// Not inlined, and over registers of its own: so its loop is short, and laid out the same wherever it is called from.
+#[inline(never)]
 fn run_plain(
+    code: &[Instr],
+    block: &mut Block,
+    words: &mut Words,
+    r: &mut Registers,
+    left: &mut u64,
+) -> Option<Halt>
+    requires code { length code.now < 2 ^ 31 }
+    requires size { IsSize (length block.old) }
+    ensures paused { (table : Table) (told : Outside) → Paused code.now table left.old left.new (state_at block.old words.old r.old) (state_at block.new words.new r.new) told result }
+    ensures size { length block.new ≡ length block.old }
+{
+    let mut registers = *r;
+    let mut steps = *left;
+    let halt = plain_steps(code, block, words, &mut registers, &mut steps);
+    *r = registers;
+    *left = steps;
+    halt
+}
+
+// The same, counted down to make the loop short.
+fn plain_steps(
     code: &[Instr],
     block: &mut Block,
     words: &mut Words,

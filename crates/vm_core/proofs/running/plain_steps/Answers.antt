@@ -3,7 +3,7 @@ use Rattle.vm_core.specs.Machine.{step}
 use Rattle.vm_core.specs.Module.{state_at}
 use Rattle.vm_core.proofs.Loop.{ran_none, ran_for}
 use Rattle.vm_core.proofs.Pausing.{plain_ends, plain_goes, plain_halts}
-use Rattle.vm_core.proofs.running.run_plain.Goals as goal
+use Rattle.vm_core.proofs.running.plain_steps.Goals as goal
 
 pub loop-left-init : goal.loop-left-init
 loop-left-init c = record {

@@ -3,7 +3,7 @@ use Rattle.qv_outside.specs.Hosts.{Table}
 use Rattle.vm_core.specs.Machine.{step, Going}
 use Rattle.vm_core.specs.Module.{state_at}
 use Rattle.vm_core.specs.Ran.{Ran, Outside, AsDefined}
-use Rattle.vm_core.proofs.running.run_plain.Given as goal
+use Rattle.vm_core.proofs.running.plain_steps.Given as goal
 
 abbrev pub invariant-loop-left : goal.invariant-loop-left
 invariant-loop-left l = record {
