@@ -1,3 +1,4 @@
+#![tactic(auto)]
 //! Rows: what the tool answers over files, streams and a host in memory.
 //!
 //! The program reads a script from standard input and writes a transcript to standard output: each line of
@@ -40,7 +41,6 @@
 //!
 //! The functions here are proved to be safe and to end. What they print no clause says: the gate compares it
 //! with the file `stdout`.
-#![tactic(auto)]
 
 mod content;
 mod fault;
