@@ -1,18 +1,9 @@
 -- Definitions of macros: `name=text`, or `name` for `name=1`.
-use Rattle.std.specs.Prelude.{ℕ, Bool, false, ◌&&◌, ◌||◌, ◌==◌, nat_le, not, List, [], ◌∷◌, codes, Option, Some, None, if◌then◌else◌}
-use Rattle.std.specs.List.{list_all, list_any, before_first, after_first}
+use Rattle.std.specs.Prelude.{ℕ, Bool, ◌&&◌, ◌==◌, not, List, [], ◌∷◌, codes, Option, Some, None, if◌then◌else◌}
+use Rattle.std.specs.List.{list_any, before_first, after_first}
 use Rattle.std.specs.Str.{bytes_eq}
-use Rattle.qv_base.specs.Decimal.{is_digit}
+use Rattle.pp_tok.specs.Sole.{is_identifier}
 use Rattle.qv_words.specs.Text.{is_definition_text}
-
--- a letter, a digit or an underscore
-abbrev pub is_identifier_byte : ℕ → Bool
-is_identifier_byte b = is_digit b || (nat_le 65 b && nat_le b 90) || (nat_le 97 b && nat_le b 122) || (b == 95)
-
--- an identifier doesn't begin with a digit
-abbrev pub is_identifier : List ℕ → Bool
-is_identifier [] = false
-is_identifier (b ∷ bs) = not (is_digit b) && list_all is_identifier_byte (b ∷ bs)
 
 -- names that can't be defined
 abbrev pub reserved : List (List ℕ)

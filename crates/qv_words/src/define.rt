@@ -1,14 +1,14 @@
 //! Definitions of macros: `name=text`, or `name` for `name=1`.
 ghost use Rattle.std.specs.Prelude.{◌≡◌, IfOk, OnOk, map, option_map, string_bytes};
-ghost use Rattle.std.specs.List.{list_all, list_any};
+ghost use Rattle.std.specs.List.{list_any};
 ghost use Rattle.std.specs.Str.{bytes_eq};
-ghost use Rattle.qv_words.specs.Define.{is_identifier_byte, is_identifier, is_macro_name, reserved, defined_as, definition_of, with_definition};
+ghost use Rattle.qv_words.specs.Define.{is_macro_name, reserved, defined_as, definition_of, with_definition};
 ghost use Rattle.qv_words.specs.Shown.{define_shown};
 
 use crate::text::is_definition_text;
 use indexmap::IndexMap;
+use pp_tok::sole::is_identifier;
 use qv_base::NoMemory;
-use qv_base::decimal::is_digit;
 use std::alloc::Global;
 
 // Names that can't be defined.
@@ -57,33 +57,6 @@ fn is_reserved(name: &str) -> bool
         }
     }
     false
-}
-
-// Whether the word is an identifier: letters, digits and `_`, and no digit first.
-fn is_identifier(word: &[u8]) -> bool
-    ensures { result ≡ is_identifier word.now }
-{
-    match word {
-        [first, ..] => !is_digit(*first) && are_identifier_bytes(word),
-        [] => false,
-    }
-}
-
-fn are_identifier_bytes(word: &[u8]) -> bool
-    ensures { result ≡ list_all is_identifier_byte word.now }
-{
-    for byte in word {
-        if !is_identifier_byte(*byte) {
-            return false;
-        }
-    }
-    true
-}
-
-fn is_identifier_byte(byte: u8) -> bool
-    ensures { result ≡ is_identifier_byte byte }
-{
-    matches!(byte, b'A'..=b'Z' | b'a'..=b'z' | b'0'..=b'9' | b'_')
 }
 
 /// Adds a macro, in the place of an earlier one of its name where there is one.

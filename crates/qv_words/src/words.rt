@@ -237,6 +237,7 @@ qcc|-d|o|-D|__LINE__=1|a.c
 qcc|-d|o|-D|A=/*|a.c
 qcc|-d|o|-D|A=/*/|a.c
 qcc|-d|o|-D|A='/*|a.c
+qcc|-d|o|-D|A=#include <a/*b>|a.c
 qcc|-d|o|-D|A=###|a.c
 qcc|-d|o|-D|A= ## x|a.c
 qcc|-d|o|-D|A=x ## /* c */|a.c

@@ -1,0 +1,5 @@
+pub mod Tables
+pub mod Cuts
+pub mod Fills
+pub mod Eaches
+pub mod Enough
