@@ -1,0 +1,11 @@
+pub mod Numbers
+pub mod Worths
+pub mod Params
+pub mod Expanding
+pub mod Trying
+pub mod Printable
+pub mod Stopping
+pub mod Searching
+pub mod Sources
+pub mod Parting
+pub mod Units

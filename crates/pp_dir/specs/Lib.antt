@@ -1,0 +1,16 @@
+pub mod Constants
+pub mod Tree
+pub mod Reading
+pub mod Worth
+pub mod Nests
+pub mod Forms
+pub mod Shown
+pub mod Sections
+pub mod Groups
+pub mod Preprocessed
+pub mod Answers
+pub mod Endings
+pub mod Nested
+pub mod Sources
+pub mod Parting
+pub mod Units
