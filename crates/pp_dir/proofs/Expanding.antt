@@ -1,11 +1,11 @@
 -- What isn't expanded is wrong.
-use Rattle.std.proofs.Common.{◌≡◌, ◌≢◌, List, Result, Ok, Err, refl, ap, subst, sym, ◌∙◌}
+use Rattle.std.proofs.Common.{◌≡◌, ◌≢◌, List, Result, Err, ap, subst, sym}
 use Rattle.std.specs.Prelude.{ℕ}
 use Rattle.pp_tok.specs.declared.token.PpTok.{PpTok}
 use Rattle.pp_macro.specs.declared.fault.ExpandFault.{ExpandFault}
 use Rattle.pp_macro.specs.declared.fault.ExpandFault.TheVariants as e
 use Rattle.pp_dir.specs.declared.fault.LineStop.{LineStop}
-use Rattle.pp_dir.specs.declared.fault.LineStop.TheVariants.{Wrong, NoMemory}
+use Rattle.pp_dir.specs.declared.fault.LineStop.TheVariants.{Wrong}
 use Rattle.pp_dir.specs.declared.state.State.{State}
 use Rattle.pp_dir.specs.Sections.{with_count, wrong_of}
 use Rattle.pp_dir.specs.Answers.{IsWrong, Unexpanded}

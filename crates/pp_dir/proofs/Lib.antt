@@ -4,6 +4,7 @@ pub mod Params
 pub mod Expanding
 pub mod Trying
 pub mod Printable
+pub mod Slashes
 pub mod Stopping
 pub mod Searching
 pub mod Sources

@@ -1,6 +1,5 @@
 -- What a search for files comes to, name by name.
-use Rattle.std.proofs.Common.{◌≡◌, ℕ, ◌+◌, ◌≤◌, ◌<◌, Bool, true, false, List, [], ◌∷◌, Option, Some, None, Result, Ok, Err, refl, sym, ap, subst, ◌∙◌, arith}
-use Rattle.std.specs.Global.{Vec}
+use Rattle.std.proofs.Common.{◌≡◌, ℕ, ◌≤◌, ◌<◌, Bool, true, false, List, ◌∷◌, Option, Some, None, Result, Ok, Err, refl, sym, ap, ◌∙◌, arith}
 use Rattle.std.specs.Prelude.{◌^◌, nat_le, length, IfSome, if◌then◌else◌}
 use Rattle.std.proofs.lemmas.Bool.Decides.{nat_tests}
 use Rattle.qv_outside.specs.Causes.{Rose}
@@ -12,7 +11,7 @@ use Rattle.pp_dir.specs.declared.fault.PpStop.TheVariants.{Fault, File, NoMemory
 use Rattle.pp_dir.specs.declared.state.State.{State}
 use Rattle.pp_dir.specs.Preprocessed.{Outcome, Held, Found, trying, found_in, no_file, searched}
 use Rattle.pp_dir.specs.Endings.{Keeper, Keeps, HasCause, failed_after, Stops, IsRead, stop_of, tried_in, state_behind}
-use Rattle.pp_dir.proofs.Trying.{Grows, among_last, searched_grows}
+use Rattle.pp_dir.proofs.Trying.{among_last, searched_grows}
 
 -- ---- the keeper
 

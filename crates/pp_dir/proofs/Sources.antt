@@ -1,12 +1,11 @@
 -- Why a file stops, by its parts.
-use Rattle.std.proofs.Common.{◌≡◌, ℕ, zero, suc, ◌-◌, ◌<◌, true, false, List, [], ◌∷◌, Option, Some, None, Result, Ok, Err, refl, sym, ap, subst, ◌∙◌, arith}
+use Rattle.std.proofs.Common.{◌≡◌, ℕ, zero, suc, ◌-◌, ◌<◌, true, false, List, [], ◌∷◌, Option, None, Result, Ok, Err, refl, sym, subst, ◌∙◌, arith}
 use Rattle.std.specs.Prelude.{Option}
 use Rattle.qv_outside.specs.FileMap.{FileMap, content}
 use Rattle.pp_tok.specs.declared.token.PpTok.{PpTok}
 use Rattle.pp_tok.specs.declared.token.PpLine.{PpLine}
 use Rattle.pp_dir.specs.declared.passage.Passage.{Passage}
 use Rattle.pp_dir.specs.declared.fault.PpStop.{PpStop}
-use Rattle.pp_dir.specs.declared.fault.PpStop.TheVariants.{NoMemory}
 use Rattle.pp_dir.specs.declared.fault.LineStop.{LineStop}
 use Rattle.pp_dir.specs.declared.fault.PpFaultKind.TheVariants as k
 use Rattle.pp_dir.specs.declared.state.State.{State}

@@ -1,7 +1,5 @@
 -- Why a part stops, the whole stops.
-use Rattle.std.proofs.Common.{◌≡◌, ℕ, ◌≤◌, ◌<◌, Bool, true, false, List, [], ◌∷◌, Option, Some, None, Result, Ok, Err, refl, sym, ap, subst, ◌∙◌, arith}
-use Rattle.std.specs.Global.{Vec}
-use Rattle.std.specs.Prelude.{◌^◌, nat_le, length}
+use Rattle.std.proofs.Common.{◌≡◌, ℕ, true, List, Some, Ok, Err, sym, ap}
 use Rattle.qv_outside.specs.declared.files.FileFault.TheVariants as f
 use Rattle.pp_macro.specs.Tokens.{is_among}
 use Rattle.pp_dir.specs.declared.fault.LineStop.{LineStop}

@@ -1,7 +1,6 @@
 -- A name that was tried stays among those that were tried.
-use Rattle.std.proofs.Common.{◌≡◌, ℕ, zero, suc, Bool, true, false, ◌||◌, cond, List, [], ◌∷◌, ◌++◌, Option, Some, None, Result, Ok, Err, refl, sym, ap, ◌∙◌}
+use Rattle.std.proofs.Common.{◌≡◌, ℕ, zero, suc, Bool, true, false, ◌||◌, cond, List, [], ◌∷◌, ◌++◌, Option, Some, None, Result, Ok, Err, refl, ap, ◌∙◌}
 use Rattle.std.specs.Prelude.{◌^◌, nat_le, length}
-use Rattle.std.specs.List.{list_any}
 use Rattle.std.specs.Str.{bytes_eq}
 use Rattle.std.proofs.lemmas.List.Folds.{list_any-append}
 use Rattle.std.proofs.lemmas.Slice.Eq.{bytes_eq-Decides}
@@ -19,8 +18,8 @@ use Rattle.pp_dir.specs.declared.passage.Passage.{Passage}
 use Rattle.pp_dir.specs.declared.passage.Passage.TheVariants as p
 use Rattle.pp_dir.specs.declared.state.State.{State}
 use Rattle.pp_dir.specs.Forms.{Wanted, passages_of, directive_of, begins_with_header, header_of, text_of, candidates}
-use Rattle.pp_dir.specs.Sections.{Local, value_or, with_count, expanded, undated, undated_by, with_tokens, section, define, condition_met, condition, defined, undefine, ◌>>=◌}
-use Rattle.pp_dir.specs.Groups.{Flow, reads, around, test, if_at, elif_in, elif_at, else_in, else_at, endif_in, endif_at, in_innermost, undated_around, is_conditional, conditional, tail_of}
+use Rattle.pp_dir.specs.Sections.{Local, value_or, with_count, expanded, undated, undated_by, with_tokens, section, define, condition, defined, ◌>>=◌}
+use Rattle.pp_dir.specs.Groups.{Flow, reads, around, test, if_at, elif_in, else_in, endif_in, in_innermost, undated_around, is_conditional, conditional, tail_of}
 use Rattle.pp_dir.specs.Preprocessed.{Outcome, Held, Found, Reader, followed, in_file, trying, found_in, searched, read_found, include_by, include_named, include, act, act_on, act_read, directive_by, directive, section_in, step, steps, closed, lines_read, file_by, file_in, within_at}
 use Rattle.pp_dir.specs.Endings.{tried_in, itself, state_in, state_behind}
 

@@ -1,5 +1,5 @@
 -- A unit is read as the first file.
-use Rattle.std.proofs.Common.{◌≡◌, ℕ, ◌<◌, ◌^◌, List, [], ◌∷◌, Option, Some, None, Result, Ok, Err, refl, sym, ap, subst, ◌∙◌, length}
+use Rattle.std.proofs.Common.{◌≡◌, ℕ, ◌<◌, ◌^◌, List, [], ◌∷◌, Option, Some, None, Ok, Err, refl, ap, ◌∙◌, length}
 use Rattle.std.specs.Prelude.{IfSome}
 use Rattle.qv_outside.specs.declared.files.FileFault.TheVariants.{Absent}
 use Rattle.pp_dir.specs.declared.fault.PpStop.{PpStop}

@@ -1,6 +1,6 @@
 -- Worths of expressions by the worths of their parts, and what reading comes to by worths.
-use Rattle.std.proofs.Common.{◌≡◌, ℕ, zero, suc, ◌+◌, ◌-◌, ◌<◌, ◌≤◌, Bool, true, false, ◌||◌, List, [], ◌∷◌, Option, Some, None, refl, sym, ap, subst, ◌∙◌, arith}
-use Rattle.std.specs.Prelude.{max, min, option_map, option_and_then, if◌then◌else◌, codes}
+use Rattle.std.proofs.Common.{◌≡◌, ℕ, zero, suc, ◌+◌, ◌-◌, ◌<◌, false, List, ◌∷◌, Option, Some, None, refl, sym, ap, subst, ◌∙◌, arith}
+use Rattle.std.specs.Prelude.{max, option_and_then, codes}
 use Rattle.std.proofs.lemmas.Option.{same_Some}
 use Rattle.pp_tok.specs.declared.token.PpTok.{PpTok}
 use Rattle.pp_dir.specs.declared.operator.UnaryOp.{UnaryOp}
@@ -10,8 +10,8 @@ use Rattle.pp_dir.specs.declared.part.Part.{Part}
 use Rattle.pp_dir.specs.declared.part.Part.TheVariants.{Operand, Whole}
 use Rattle.pp_dir.specs.declared.value.Value.{Value}
 use Rattle.pp_dir.specs.declared.worth.Worth.{Worth}
-use Rattle.pp_dir.specs.Tree.{Expr, Constant, Grouped, Unary, Binary, Choice, depth_of, is_unsigned, word_of, is_true, unary_unsigned, unary_word, binary_unsigned, lazy_word}
-use Rattle.pp_dir.specs.Reading.{Found, behind, choice_at, grouped_at, operand_at, operand_by, primary, ranked_op, chain, ranked, tail_of, whole_at, part_at, part, choice, chosen, value_of, unary_op}
+use Rattle.pp_dir.specs.Tree.{Expr, Constant, Grouped, Unary, Binary, Choice, depth_of, is_unsigned, word_of}
+use Rattle.pp_dir.specs.Reading.{Found, behind, choice_at, grouped_at, operand_at, ranked_op, chain, ranked, tail_of, whole_at, part_at, part, value_of, unary_op}
 use Rattle.pp_dir.specs.Worth.{cut, worth_of, constant_worth, grouped_worth, unary_worth, binary_worth, choice_worth, worth_read, Reads}
 
 cut_one : (a : ℕ) → cut (1 + a) ≡ cut (1 + cut a)

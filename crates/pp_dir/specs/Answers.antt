@@ -1,5 +1,5 @@
 -- What functions answer that do a part of the work, unless memory is refused. No public clause names it.
-use Rattle.std.specs.Prelude.{◌≡◌, ◌≢◌, List, Result, Ok, Err}
+use Rattle.std.specs.Prelude.{◌≡◌, List, Result, Ok, Err}
 use Rattle.pp_dir.specs.declared.fault.LineStop.{LineStop}
 use Rattle.pp_dir.specs.declared.fault.LineStop.TheVariants.{Wrong, NoMemory}
 use Rattle.pp_macro.specs.declared.fault.ExpandFault.{ExpandFault}

@@ -1,5 +1,5 @@
 -- Constants of conditions: numbers and characters.
-use Rattle.std.specs.Prelude.{ℕ, ◌+◌, ◌-◌, ◌*◌, ◌^◌, Bool, true, false, ◌&&◌, ◌||◌, ◌==◌, nat_le, nat_lt, not, List, [], ◌∷◌, length, take, drop, position, unwrap_or, Option, Some, None, option_map, option_and_then, if◌then◌else◌, find}
+use Rattle.std.specs.Prelude.{ℕ, ◌+◌, ◌-◌, ◌*◌, ◌^◌, Bool, true, false, ◌&&◌, ◌||◌, ◌==◌, nat_le, nat_lt, List, [], ◌∷◌, length, take, drop, position, unwrap_or, Option, Some, None, option_map, option_and_then, if◌then◌else◌, find}
 use Rattle.qv_base.specs.Decimal.{is_digit}
 use Rattle.qv_base.specs.Word.{sign_extended_8}
 use Rattle.pp_dir.specs.declared.value.Value.{Value}

@@ -1,10 +1,9 @@
 -- What functions answer that read files, and what the keeper of the files tells.
 use Rattle.std.specs.Global.{Vec}
-use Rattle.std.specs.Prelude.{◌≡◌, ◌≢◌, ℕ, ◌<◌, ◌≤◌, ◌^◌, length, option_map, Bool, true, false, List, Option, Some, None, Result, Ok, Err, IfSome}
+use Rattle.std.specs.Prelude.{◌≡◌, ℕ, ◌<◌, ◌≤◌, ◌^◌, length, option_map, true, List, Option, Some, None, Result, Ok, Err, IfSome}
 use Rattle.qv_outside.specs.Causes.{Rose}
 use Rattle.qv_outside.specs.FileMap.{FileMap}
 use Rattle.qv_outside.specs.declared.files.Files as keeping
-use Rattle.qv_outside.specs.declared.files.FileFault.{FileFault}
 use Rattle.qv_outside.specs.declared.files.FileFault.TheVariants as f
 use Rattle.pp_macro.specs.Tokens.{is_among}
 use Rattle.pp_dir.specs.declared.fault.LineStop.{LineStop}
@@ -15,7 +14,7 @@ use Rattle.pp_dir.specs.declared.search.Found.{Found}
 use Rattle.pp_dir.specs.declared.group.Group.{Group}
 use Rattle.pp_dir.specs.declared.state.State.{State}
 use Rattle.pp_dir.specs.Groups.{Flow}
-use Rattle.pp_dir.specs.Preprocessed.{Outcome, Stopped}
+use Rattle.pp_dir.specs.Preprocessed.{Outcome}
 
 -- ---- the keeper of the files
 

@@ -1,6 +1,6 @@
 -- The forms of directives (ANSI C X3.159-1989, 3.8).
-use Rattle.std.specs.Prelude.{ℕ, zero, suc, ◌+◌, ◌-◌, Bool, true, false, ◌&&◌, ◌||◌, ◌==◌, nat_le, not, is_some, List, [], ◌∷◌, ◌++◌, map, length, take, drop, find, codes, slice_get, Option, Some, None, option_map, option_and_then, unwrap_or, if◌then◌else◌}
-use Rattle.std.specs.List.{list_any, list_all, join_with_byte}
+use Rattle.std.specs.Prelude.{ℕ, zero, suc, ◌-◌, Bool, true, false, ◌&&◌, ◌||◌, ◌==◌, nat_le, not, is_some, List, [], ◌∷◌, ◌++◌, map, length, take, drop, codes, slice_get, Option, Some, None, option_map, option_and_then, unwrap_or, if◌then◌else◌}
+use Rattle.std.specs.List.{list_any, list_all}
 use Rattle.std.specs.Str.{bytes_eq}
 use Rattle.pp_tok.specs.declared.token.PpTok.{PpTok}
 use Rattle.pp_tok.specs.declared.token.PpLine.{PpLine}
@@ -199,14 +199,13 @@ abbrev pub begins_with_header : List PpTok → Bool
 begins_with_header [] = false
 begins_with_header (t ∷ ts) = is_header t.kind
 
--- the place behind the last `/` of a name from this place on, where there is one
-abbrev pub slash_end : ℕ → ℕ → List ℕ → ℕ
-slash_end found at [] = found
-slash_end found at (b ∷ bs) = slash_end (if b == 47 then at + 1 else found) (at + 1) bs
+abbrev pub is_slash : ℕ → Bool
+is_slash b = b == 47
 
--- a name up to its last `/`, and it
-abbrev pub directory_of : List ℕ → List ℕ
-directory_of name = take (slash_end 0 0 name) name
+-- a name up to its last `/`, and it: the bytes that have a `/` at their place or behind it
+unfoldable pub directory_of : List ℕ → List ℕ
+directory_of [] = []
+directory_of (b ∷ bs) = if list_any is_slash (b ∷ bs) then b ∷ directory_of bs else []
 
 -- the names that are tried in turn
 abbrev pub candidates : List (List ℕ) → List ℕ → Wanted → List (List ℕ)

@@ -1,5 +1,5 @@
 -- Conditionals (ANSI C X3.159-1989, 3.8.1): which lines are read.
-use Rattle.std.specs.Prelude.{ℕ, Bool, true, false, ◌&&◌, ◌||◌, not, List, [], ◌∷◌, Option, Some, None, Result, Ok, Err, if◌then◌else◌}
+use Rattle.std.specs.Prelude.{ℕ, Bool, true, false, ◌&&◌, ◌||◌, not, List, [], ◌∷◌, Option, Some, None, Ok, if◌then◌else◌}
 use Rattle.pp_tok.specs.declared.token.PpTok.{PpTok}
 use Rattle.pp_dir.specs.declared.directive.Directive.{Directive}
 use Rattle.pp_dir.specs.declared.directive.Directive.TheVariants as d

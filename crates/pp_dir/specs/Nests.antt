@@ -1,5 +1,5 @@
 -- A function value that reads what is less deep than a number. No public clause names it.
-use Rattle.std.specs.Prelude.{ℕ, ◌<◌, List, Option}
+use Rattle.std.specs.Prelude.{ℕ, List, Option}
 use denote.Ref.{MutBor}
 use Rattle.pp_tok.specs.declared.token.PpTok.{PpTok}
 use Rattle.pp_dir.specs.declared.part.Part.{Part}

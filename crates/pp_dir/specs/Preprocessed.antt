@@ -1,5 +1,5 @@
 -- What a unit of C is after preprocessing (ANSI C X3.159-1989, 2.1.1.2 and 3.8).
-use Rattle.std.specs.Prelude.{ℕ, zero, suc, ◌-◌, ◌^◌, Bool, true, false, nat_le, nat_lt, is_some, List, [], ◌∷◌, ◌++◌, length, find, position, codes, Option, Some, None, unwrap_or, Result, Ok, Err, if◌then◌else◌}
+use Rattle.std.specs.Prelude.{ℕ, zero, suc, ◌-◌, ◌^◌, nat_le, is_some, List, [], ◌∷◌, ◌++◌, length, position, codes, Option, Some, None, unwrap_or, Result, Ok, Err, if◌then◌else◌}
 use Rattle.std.specs.Str.{bytes_eq}
 use Rattle.qv_base.specs.Place.{capped}
 use Rattle.qv_outside.specs.declared.files.FileFault.{FileFault}
@@ -13,11 +13,9 @@ use Rattle.pp_dir.specs.declared.directive.Directive.{Directive}
 use Rattle.pp_dir.specs.declared.directive.Directive.TheVariants as d
 use Rattle.pp_dir.specs.declared.passage.Passage.{Passage}
 use Rattle.pp_dir.specs.declared.passage.Passage.TheVariants as p
-use Rattle.pp_dir.specs.declared.group.Group.{Group}
 use Rattle.pp_dir.specs.declared.fault.PpFaultKind.TheVariants as k
 use Rattle.pp_dir.specs.declared.fault.PpStop.{PpStop}
 use Rattle.pp_dir.specs.declared.fault.PpStop.TheVariants.{Fault, File}
-use Rattle.pp_dir.specs.declared.fault.Wrong.{Wrong}
 use Rattle.pp_dir.specs.declared.state.State.{State}
 use Rattle.pp_dir.specs.Forms.{Wanted, passages_of, directive_of, macro_of, begins_with_header, header_of, text_of, candidates, error_text}
 use Rattle.pp_dir.specs.Sections.{Local, wrong, value_or, undated, expanded, section, define, undefine, ◌>>=◌}

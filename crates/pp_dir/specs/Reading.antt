@@ -1,10 +1,10 @@
 -- How tokens are read as a condition (ANSI C X3.159-1989, 3.3 and 3.8.1): without assignments, commas, casts and
 -- sizeof. Names are 0.
-use Rattle.std.specs.Prelude.{ℕ, zero, suc, ◌+◌, ◌-◌, Bool, true, false, ◌&&◌, ◌==◌, nat_le, List, [], ◌∷◌, codes, find, Option, Some, None, option_map, option_and_then, if◌then◌else◌}
+use Rattle.std.specs.Prelude.{ℕ, zero, suc, Bool, false, ◌==◌, nat_le, List, [], ◌∷◌, codes, find, Option, Some, None, option_map, option_and_then, if◌then◌else◌}
 use Rattle.std.specs.Str.{bytes_eq}
 use Rattle.pp_tok.specs.declared.token.PpTok.{PpTok}
 use Rattle.pp_tok.specs.declared.token.PpKind.{PpKind}
-use Rattle.pp_tok.specs.declared.token.PpKind.TheVariants.{Ident, Number, Char, Text, Punct, Header, Byte}
+use Rattle.pp_tok.specs.declared.token.PpKind.TheVariants.{Ident, Number, Char}
 use Rattle.pp_macro.specs.Tokens.{is_mark, is_punct}
 use Rattle.pp_dir.specs.declared.value.Value.{Value}
 use Rattle.pp_dir.specs.declared.part.Part.{Part}

@@ -1,5 +1,5 @@
 -- What is known between the lines of a unit, and what sections and conditions come to.
-use Rattle.std.specs.Prelude.{ℕ, ◌+◌, ◌^◌, Bool, true, false, nat_lt, not, List, ◌++◌, length, find, Option, Some, None, Result, Ok, Err, if◌then◌else◌}
+use Rattle.std.specs.Prelude.{ℕ, ◌+◌, ◌^◌, Bool, nat_lt, not, List, ◌++◌, length, find, Option, Some, None, Result, Ok, Err, if◌then◌else◌}
 use Rattle.pp_tok.specs.declared.token.PpTok.{PpTok}
 use Rattle.pp_tok.specs.declared.token.PpLine.{PpLine}
 use Rattle.pp_macro.specs.declared.macros.Macro.{Macro}

@@ -1,5 +1,5 @@
 -- Conditions as trees, and what they come to (ANSI C X3.159-1989, 3.3 and 3.8.1).
-use Rattle.std.specs.Prelude.{ℕ, ◌+◌, ◌-◌, ◌*◌, ◌/◌, ◌%◌, ◌^◌, Bool, true, false, ◌&&◌, ◌||◌, ◌==◌, nat_le, nat_lt, not, max, bit_and, bit_or, bit_xor, Option, Some, None, option_map, option_and_then, if◌then◌else◌}
+use Rattle.std.specs.Prelude.{ℕ, ◌+◌, ◌-◌, ◌/◌, ◌%◌, ◌^◌, Bool, false, ◌&&◌, ◌||◌, ◌==◌, nat_lt, not, max, bit_and, bit_or, bit_xor, Option, Some, None, option_map, option_and_then, if◌then◌else◌}
 use Rattle.qv_base.specs.Word.{plus, minus, times, negated, shifted_left, shifted_right, shifted_signed, is_less_signed, quotient_signed, remainder_signed}
 use Rattle.pp_dir.specs.declared.value.Value.{Value}
 use Rattle.pp_dir.specs.declared.operator.UnaryOp.{UnaryOp}

@@ -1,6 +1,6 @@
 -- What `preprocess` promises.
 use Rattle.std.specs.declared.alloc.Global.{Global}
-use Rattle.std.specs.Prelude.{◌≡◌, ℕ, List, Option, Some, Result, Ok, Err, string_bytes, String}
+use Rattle.std.specs.Prelude.{◌≡◌, ℕ, List, Result, Ok, Err, string_bytes, String}
 use Rattle.pp_dir.specs.declared.fault.PpStop.{PpStop}
 use Rattle.pp_dir.specs.declared.state.State.{State}
 use Rattle.pp_dir.specs.declared.unit.Preprocessed.{Preprocessed}

@@ -24,12 +24,14 @@ impl<'t> Model for Cursor<'t> {
 }
 
 impl<'t> Cursor<'t> {
+    /// The place before the first token.
     pub fn new(toks: &'t [PpTok]) -> Cursor<'t>
         ensures { result ≡ toks.now }
     {
         Cursor { rest: toks }
     }
 
+    /// Whether no token is left.
     pub fn is_at_end(&self) -> bool
         ensures { Ends result self.now }
     {

@@ -292,8 +292,8 @@ impl<G> Source<'_, G> {
 
     // A section, where the text is read.
     #[tactic(auto, using(crate::proofs::Sources::section_stops, crate::proofs::Sources::section_reads))]
-    fn section(&self, section: &PpLine, groups: &Groups, state: &mut State) -> Result<(), PpStop>
-        ensures told { (m : FileMap) → EndsWithin (at.section_in m (map string_bytes self.now.dirs.now) self.now.depth self.now.file.now section.now (groups.now, state.old)) result groups.now state.new }
+    fn section(&self, section: PpLine, groups: &Groups, state: &mut State) -> Result<(), PpStop>
+        ensures told { (m : FileMap) → EndsWithin (at.section_in m (map string_bytes self.now.dirs.now) self.now.depth self.now.file.now section (groups.now, state.old)) result groups.now state.new }
         ensures kept { NotFailed result }
     {
         if !groups.reads() {
@@ -306,7 +306,7 @@ impl<G> Source<'_, G> {
     // A passage.
     fn step<F: Files>(
         &self,
-        passage: &Passage,
+        passage: Passage,
         groups: &mut Groups,
         state: &mut State,
         files: &mut F,
@@ -314,7 +314,7 @@ impl<G> Source<'_, G> {
     where
         G: Fn(Global, &[String], usize, &str, &[u8], &mut State, &mut F) -> Result<(), PpStop>,
         requires { 0 < self.now.depth → Nested F.Files (self.now.depth - 1) (G.pre self.now.within) (G.post self.now.within) }
-        ensures told { (m : FileMap) → F.held files.old ≡ Some m → EndsWithin (at.step m (map string_bytes self.now.dirs.now) self.now.depth self.now.file.now passage.now (groups.old, state.old)) result groups.new state.new }
+        ensures told { (m : FileMap) → F.held files.old ≡ Some m → EndsWithin (at.step m (map string_bytes self.now.dirs.now) self.now.depth self.now.file.now passage (groups.old, state.old)) result groups.new state.new }
         ensures keeps { Keeps (keeper_of F.Files files.old) (keeper_of F.Files files.new) result }
     {
         match passage {
@@ -342,7 +342,7 @@ impl<G> Source<'_, G> {
     {
         let mut rest = lines;
         while let Some(passage) = rest.next_passage()? {
-            match self.step(&passage, groups, state, files) {
+            match self.step(passage, groups, state, files) {
                 Ok(()) => {}
                 Err(stop) => return Err(stop),
             }

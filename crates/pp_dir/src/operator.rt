@@ -8,32 +8,54 @@ use pp_tok::token::{PpKind, PpTok};
 /// An operator before its operand.
 #[derive(Clone, Copy, Debug, PartialEq, Eq)]
 pub enum UnaryOp {
+    /// `+`: the value itself.
     Plus,
+    /// `-`: the value negated.
     Minus,
+    /// `~`: each bit turned round.
     Complement,
+    /// `!`: whether the value is 0.
     Not,
 }
 
 /// An operator between its operands.
 #[derive(Clone, Copy, Debug, PartialEq, Eq)]
 pub enum BinaryOp {
+    /// `*`: the product.
     Multiply,
+    /// `/`: the quotient.
     Divide,
+    /// `%`: the remainder.
     Remainder,
+    /// `+`: the sum.
     Add,
+    /// `-`: the difference.
     Subtract,
+    /// `<<`: the bits moved up.
     ShiftLeft,
+    /// `>>`: the bits moved down.
     ShiftRight,
+    /// `<`: whether the left one is less.
     Less,
+    /// `>`: whether it is greater.
     Greater,
+    /// `<=`: whether it isn't greater.
     LessEqual,
+    /// `>=`: whether it isn't less.
     GreaterEqual,
+    /// `==`: whether both are the same.
     Equal,
+    /// `!=`: whether they aren't.
     NotEqual,
+    /// `&`: the bits that both have.
     BitAnd,
+    /// `^`: the bits that one alone has.
     BitXor,
+    /// `|`: the bits that one has.
     BitOr,
+    /// `&&`: whether neither is 0.
     And,
+    /// `||`: whether one isn't 0.
     Or,
 }
 
@@ -77,7 +99,7 @@ fn binary_ops() -> &'static [(&'static str, BinaryOp)]
     &BINARY_OPS
 }
 
-// What a spelling stands for in a table of operators.
+/// What a spelling stands for in a table of operators.
 pub fn named_in<T: Copy>(ops: &[(&str, T)], spelling: &[u8]) -> Option<T>
     ensures { result ≡ spec.named_in (map named_op ops.now) spelling.now }
 {

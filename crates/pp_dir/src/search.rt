@@ -1,5 +1,5 @@
 //! The search for files.
-ghost use Rattle.std.specs.Prelude.{◌≡◌, ◌<◌, ◌+◌, ◌^◌, ◌==◌, if◌then◌else◌, IfOk, OnOk, Some, map, string_bytes};
+ghost use Rattle.std.specs.Prelude.{◌≡◌, ◌<◌, ◌+◌, ◌^◌, if◌then◌else◌, IfOk, OnOk, Some, map, string_bytes, take};
 ghost use Rattle.std.specs.Str.{IsCharBoundary};
 ghost use Rattle.qv_outside.specs.FileMap.{FileMap, content};
 ghost use Rattle.pp_dir.specs.Endings.{EndsFound, IsRead, Keeps, keeper_of};
@@ -94,15 +94,15 @@ impl State {
 // That place behind one more byte, at this place.
 fn end_behind(end: usize, at: usize, byte: u8) -> usize
     requires { at < 2 ^ 63 }
-    ensures { result ≡ (if byte == 47 then at + 1 else end) }
+    ensures { result ≡ (if forms.is_slash byte then at + 1 else end) }
 {
     if byte == b'/' { at + 1 } else { end }
 }
 
 // The place behind the last `/` of a name, or 0.
-#[tactic(auto, using(crate::proofs::Printable::slash_step, crate::proofs::Printable::boundary_step))]
+#[tactic(auto, using(crate::proofs::Slashes::directory_step, crate::proofs::Slashes::boundary_step), unfolding(crate::specs::Forms::directory_of))]
 fn slash_end(name: &str) -> usize
-    ensures value { result ≡ forms.slash_end 0 0 name.now }
+    ensures value { take result name.now ≡ forms.directory_of name.now }
     ensures boundary { 0 < result → IsCharBoundary name.now result }
 {
     let mut end = 0;

@@ -83,6 +83,13 @@ impl State {
         }
     }
 
+    // The same of tokens that are let go.
+    fn expand_all(&mut self, alloc: Global, toks: Items<PpTok>) -> Result<Items<PpTok>, LineStop>
+        ensures { GivesWith (spec.expanded self.old toks) result self.new }
+    {
+        self.expand(alloc, toks.as_slice())
+    }
+
     // Tokens of the section that begins with this line.
     fn add(&mut self, line: u32, toks: Items<PpTok>) -> Result<(), LineStop>
         ensures { Changes (spec.with_tokens line (toks, self.old)) result self.new }
@@ -106,12 +113,13 @@ impl State {
     /// # Errors
     ///
     /// LeftOut, a fault of expansion or TokenLimit, each on its line, or NoMemory.
-    pub fn section(&mut self, alloc: Global, section: &PpLine) -> Result<(), LineStop>
-        ensures { Changes (spec.section self.old section.now) result self.new }
+    pub fn section(&mut self, alloc: Global, section: PpLine) -> Result<(), LineStop>
+        ensures { Changes (spec.section self.old section) result self.new }
     {
-        undated(alloc, section.toks.as_slice())?;
-        let toks = self.expand(alloc, section.toks.as_slice())?;
-        self.add(section.number, toks)
+        let PpLine { number, toks } = section;
+        undated(alloc, toks.as_slice())?;
+        let toks = self.expand_all(alloc, toks)?;
+        self.add(number, toks)
     }
 
     /// Defines a macro.

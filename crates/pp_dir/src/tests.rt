@@ -320,6 +320,30 @@ fn defined(rt: HostRuntime) -> Result<(), Fail> {
     Ok(())
 }
 
+// A unit with 2^22 tokens takes no further one. The section that has it begins with a blank line.
+#[test]
+fn many_tokens(rt: HostRuntime) -> Result<(), Fail> {
+    let alloc = rt.alloc();
+    let some = "x ".repeat(alloc, 1 << 16)?;
+    let lines = "#include \"a.h\"\n".repeat(alloc, 64)?;
+    let unit = format!(in alloc; "{lines}\nx\n")?;
+    let text = come_to(alloc, unit.as_str(), &[("a.h", some.as_str())], &[], &[])?;
+    assert_eq!(rt; text.as_slice(), b"main.c:65: token limit".as_slice());
+    Ok(())
+}
+
+// 1,000,000 replacements, each `a` being 1000, and one more.
+#[test]
+fn many_replacements(rt: HostRuntime) -> Result<(), Fail> {
+    let alloc = rt.alloc();
+    let body = "e ".repeat(alloc, 999)?;
+    let lines = "a a a a a a a a a a\n".repeat(alloc, 100)?;
+    let unit = format!(in alloc; "#define e\n#define a {body}\n{lines}#\ne\n")?;
+    let text = come_to(alloc, unit.as_str(), &[], &[], &[])?;
+    assert_eq!(rt; text.as_slice(), b"main.c:104: macro limit".as_slice());
+    Ok(())
+}
+
 // The unit isn't there.
 #[test]
 fn absent(rt: HostRuntime) -> Result<(), Fail> {

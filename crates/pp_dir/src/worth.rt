@@ -20,6 +20,7 @@ pub struct Worth {
 }
 
 impl Worth {
+    /// That of a constant.
     pub fn constant(value: Value) -> Worth
         ensures { result ≡ spec.constant_worth value }
     {
@@ -30,6 +31,7 @@ impl Worth {
         }
     }
 
+    /// That of the expression in parentheses.
     pub fn grouped(self) -> Worth
         ensures { result ≡ spec.grouped_worth self }
     {
@@ -39,6 +41,7 @@ impl Worth {
         }
     }
 
+    /// That of the expression behind an operator.
     pub fn unary(self, op: UnaryOp) -> Worth
         ensures { result ≡ spec.unary_worth op self }
     {
@@ -49,6 +52,7 @@ impl Worth {
         }
     }
 
+    /// That of both expressions with an operator between them.
     pub fn binary(self, op: BinaryOp, right: Worth) -> Worth
         ensures { result ≡ spec.binary_worth op self right }
     {
@@ -59,6 +63,7 @@ impl Worth {
         }
     }
 
+    /// That of a choice, by the test.
     pub fn choice(self, yes: Worth, no: Worth) -> Worth
         ensures { result ≡ spec.choice_worth self yes no }
     {

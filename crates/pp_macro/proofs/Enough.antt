@@ -1,5 +1,5 @@
 -- The bound on turns that a walk is given doesn't matter, as long as it is large enough.
-use Rattle.std.proofs.Common.{◌≡◌, ℕ, zero, suc, ◌+◌, ◌-◌, ◌<◌, ◌≤◌, Bool, true, false, cond, leb, List, [], ◌∷◌, ◌++◌, Option, Some, None, Result, Ok, Err, refl, sym, ap, ◌∙◌, subst, append_assoc, arith}
+use Rattle.std.proofs.Common.{◌≡◌, ℕ, zero, suc, ◌+◌, ◌-◌, ◌<◌, ◌≤◌, Bool, true, false, cond, leb, List, [], ◌∷◌, ◌++◌, Option, Some, None, Result, Ok, Err, MatchOption, refl, sym, ap, ◌∙◌, subst, append_assoc, arith}
 use Rattle.std.proofs.lemmas.Bool.{leb-false}
 use Rattle.std.proofs.lemmas.List.{append-nil}
 use Rattle.qv_base.specs.declared.place.Place.{Place}
@@ -125,6 +125,13 @@ expand_rises table names zero place count ts = fault
 expand_rises table names (suc depth) place count ts = walk_rises table names (expand_in table names depth) (expand_rises table names depth) (limit - count) count (within (Some place) ts)
 
 -- ---- one step of the code
+
+module _ (old new : List Pending) where
+  pub taken_next : (o : Option Pending) (t : Pending) → MatchOption o ((old ≡ []) × (new ≡ [])) (λ t. old ≡ t ∷ new) → o ≡ Some t → old ≡ t ∷ new
+  taken_next o t h is = subst (λ (o : Option Pending). MatchOption o ((old ≡ []) × (new ≡ [])) (λ t. old ≡ t ∷ new)) is h
+
+  pub taken_none : (o : Option Pending) → MatchOption o ((old ≡ []) × (new ≡ [])) (λ t. old ≡ t ∷ new) → o ≡ None → old ≡ []
+  taken_none o h is = (subst (λ (o : Option Pending). MatchOption o ((old ≡ []) × (new ≡ [])) (λ t. old ≡ t ∷ new)) is h).0
 
 fronts : (xs ys : List PpTok) (r : Outcome) → with_front xs (with_front ys r) ≡ with_front (xs ++ ys) r
 fronts xs ys (Ok p) = ap (λ (ts : List PpTok). Ok (ts, p.1)) (sym (append_assoc xs ys p.0))

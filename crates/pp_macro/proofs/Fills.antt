@@ -9,7 +9,7 @@ use Rattle.pp_macro.specs.declared.pieces.Piece.TheVariants as p
 use Rattle.pp_macro.specs.Pieces.{is_paste}
 use Rattle.pp_macro.specs.Fill.{Filled, before_last, behind_front, brought, filled, filled_behind, joined, joined_between, joined_to, last_moved, last_of, moved, paste_of}
 
-pub popped : {A : Type 0} (old new : List A) (t : A) → old ≡ new ++ t ∷ [] → reverse old ≡ t ∷ reverse new
+popped : {A : Type 0} (old new : List A) (t : A) → old ≡ new ++ t ∷ [] → reverse old ≡ t ∷ reverse new
 popped old new t is = rw (is, reverse-append new (t ∷ [])) refl
 
 one_less : (ts : List PpTok) (t : PpTok) → length (ts ++ t ∷ []) - 1 ≡ length ts

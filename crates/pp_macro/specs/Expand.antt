@@ -62,6 +62,7 @@ module _ (table : List Entry) (names : List (List ℕ)) where
 
     -- with at most so many replacements more
     unfoldable pub walk : ℕ → ℕ → List Pending → Outcome
+    -- only to be total: as the bound is `limit - count`, `change` refuses where none is left, and nothing is read again
     walk zero = pass (λ count ts. Err (MacroLimit (record { file = 0; line = 0 })))
     walk (suc n) = pass (walk n)
 

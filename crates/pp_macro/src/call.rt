@@ -1,10 +1,11 @@
 //! The arguments of a call.
-ghost use Rattle.std.specs.Prelude.{◌≡◌, ◌∷◌, ◌++◌, [], length, reverse, map, IfOk, OnOk, None};
+ghost use Rattle.std.specs.Prelude.{◌≡◌, ◌∷◌, ◌++◌, [], length, map, IfOk, OnOk, None};
 ghost use Rattle.pp_macro.specs.Calls as spec;
 ghost use Rattle.pp_macro.specs.Nests.{Takes};
 
 use crate::pending::Pending;
 use crate::tokens::is_mark;
+use crate::unread::Unread;
 use pp_tok::token::PpTok;
 use qv_base::NoMemory;
 use qv_base::name::Name;
@@ -27,14 +28,14 @@ pub struct Call {
 ///
 /// NoMemory where memory for them is refused.
 #[tactic(auto, unfolding(crate::specs::Calls::call_at))]
-pub fn take_call(alloc: Global, pending: &mut Items<Pending>) -> Result<Option<Call>, NoMemory>
-    ensures { Takes (spec.call_at (reverse pending.old) 0 [] []) result (reverse pending.new) }
+pub fn take_call(alloc: Global, unread: &mut Unread<'_>) -> Result<Option<Call>, NoMemory>
+    ensures { Takes (spec.call_at unread.old 0 [] []) result unread.new }
 {
-    let all = pending.len();
+    let all = unread.len();
     let mut args = Items::new(alloc);
     let mut arg = Items::new(alloc);
     let mut depth = 0usize;
-    while let Some(Pending { token, .. }) = pending.pop() {
+    while let Some(Pending { token, .. }) = unread.pop()? {
         if is_mark(&token, b"(") {
             depth += 1;
         } else if is_mark(&token, b")") {

@@ -1,5 +1,5 @@
 //! Expansion of a list from the left.
-ghost use Rattle.std.specs.Prelude.{List, ℕ, ◌≡◌, ◌<◌, ◌≤◌, ◌-◌, ◌++◌, ◌∷◌, [], reverse, IfOk, OnOk, None, false};
+ghost use Rattle.std.specs.Prelude.{List, ℕ, ◌≡◌, ◌<◌, ◌≤◌, ◌-◌, ◌++◌, ◌∷◌, [], IfOk, OnOk, None, false};
 ghost use Rattle.pp_macro.specs.Calls as spec;
 ghost use Rattle.pp_macro.specs.Expand.{expand_in, expand_list, walk, within};
 ghost use Rattle.pp_macro.specs.Nests.{Changes, Expands, Moves, Nests, macro_of};
@@ -11,10 +11,11 @@ use crate::fault::ExpandFault;
 use crate::fill::Arguments;
 use crate::macros::Macro;
 use crate::meaning::{Found, due};
-use crate::pending::{Filling, Pending, drop_next, put_back, stack_of};
+use crate::pending::{Filling, Pending};
 use crate::pieces::{Piece, pieces, wants};
 use crate::table::MacroTable;
 use crate::tokens::common;
+use crate::unread::Unread;
 use pp_tok::token::PpTok;
 use qv_base::NoMemory;
 use qv_base::name::Name;
@@ -33,13 +34,13 @@ fn next_due<'t>(
     alloc: Global,
     table: &'t MacroTable,
     names: &[Name],
-    pending: &mut Items<Pending>,
+    unread: &mut Unread<'_>,
     out: &mut Items<PpTok>,
 ) -> Result<Option<(Pending, Found<'t>)>, NoMemory>
-    ensures { Moves table.now names.now (reverse pending.old) out.old result (reverse pending.new) out.new }
+    ensures { Moves table.now names.now unread.old out.old result unread.new out.new }
 {
-    while let Some(token) = pending.pop() {
-        if let Some(found) = due(alloc, table, names, &token, pending)? {
+    while let Some(token) = unread.pop()? {
+        if let Some(found) = due(alloc, table, names, &token, unread)? {
             return Ok(Some((token, found)));
         }
         out.push(token.token)?;
@@ -156,15 +157,15 @@ impl<
         token: &Pending,
         params: &[Name],
         body: &[PpTok],
-        pending: &mut Items<Pending>,
+        unread: &mut Unread<'_>,
         count: &mut u32,
     ) -> Result<Filling, ExpandFault>
         requires nests { Nests self.now.depth (F.pre self.now.inner) (F.post self.now.inner) }
-        ensures reads { Changes (spec.if_taken (expand_in self.now.table.now self.now.names.now self.now.depth) count.old token.now params.now body.now (spec.call_at (spec.tail_of (reverse pending.old)) 0 [] [])) (spec.began token.now) result count.new (reverse pending.new) }
+        ensures reads { Changes (spec.if_taken (expand_in self.now.table.now self.now.names.now self.now.depth) count.old token.now params.now body.now (spec.call_at (spec.tail_of unread.old) 0 [] [])) (spec.began token.now) result count.new unread.new }
         ensures low { OnOk result (count.old ≤ count.new) }
     {
-        drop_next(pending);
-        let Some(call) = take_call(self.alloc, pending)? else {
+        unread.skip();
+        let Some(call) = take_call(self.alloc, unread)? else {
             return Err(ExpandFault::OpenCall(token.began()));
         };
         if !counts(params, call.args.as_slice()) {
@@ -194,11 +195,11 @@ impl<
         &self,
         token: Pending,
         found: &Macro,
-        pending: &mut Items<Pending>,
+        unread: &mut Unread<'_>,
         count: &mut u32,
     ) -> Result<Filling, ExpandFault>
         requires nests { Nests self.now.depth (F.pre self.now.inner) (F.post self.now.inner) }
-        ensures reads { Changes (spec.change (expand_in self.now.table.now self.now.names.now self.now.depth) count.old token found.now (reverse pending.old)) (spec.began token) result count.new (reverse pending.new) }
+        ensures reads { Changes (spec.change (expand_in self.now.table.now self.now.names.now self.now.depth) count.old token found.now unread.old) (spec.began token) result count.new unread.new }
         ensures low { OnOk result ((count.old < count.new) × (count.old < 1000000)) }
     {
         if *count >= LIMIT {
@@ -212,7 +213,7 @@ impl<
             &token,
             params.as_slice(),
             found.body.as_slice(),
-            pending,
+            unread,
             count,
         )
     }
@@ -229,17 +230,17 @@ impl<
         ensures low { OnOk result (count.old ≤ count.new) }
     {
         let mut out = Items::new(self.alloc);
-        let mut pending = stack_of(self.alloc, tokens, outer)?;
+        let mut unread = Unread::new(self.alloc, tokens, outer);
         while let Some((token, found)) = next_due(
             self.alloc,
             self.table,
             self.names,
-            &mut pending,
+            &mut unread,
             &mut out,
         )? {
             let place = token.began();
-            let filling = self.change(token, found.get(), &mut pending, count)?;
-            put_back(self.alloc, &mut pending, place, filling)?;
+            let filling = self.change(token, found.get(), &mut unread, count)?;
+            unread.put_back(place, filling)?;
         }
         Ok(out)
     }

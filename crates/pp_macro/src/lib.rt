@@ -13,6 +13,7 @@ mod pieces;
 mod spell;
 mod table;
 pub mod tokens;
+mod unread;
 
 pub use expander::expand;
 pub use fault::ExpandFault;

@@ -1,5 +1,5 @@
 //! What a name stands for.
-ghost use Rattle.std.specs.Prelude.{◌≡◌, ◌∷◌, [], IfOk, OnOk, reverse, None, decimal, slice_index_or, map};
+ghost use Rattle.std.specs.Prelude.{◌≡◌, ◌∷◌, [], IfOk, OnOk, None, decimal, slice_index_or, map};
 ghost use Rattle.std.specs.Option.{option_copied};
 ghost use Rattle.std.specs.Prelude.{◌&&◌, is_some, not, string_bytes};
 ghost use Rattle.pp_macro.specs.Macros.{find};
@@ -8,10 +8,11 @@ ghost use Rattle.pp_macro.specs.Expand as spec;
 ghost use Rattle.pp_macro.specs.Nests.{Finds, found_macro, macro_of};
 
 use crate::macros::Macro;
-use crate::pending::{Pending, opens};
+use crate::pending::Pending;
 use crate::spell::push_escaped;
 use crate::table::MacroTable;
 use crate::tokens::{is_among, made};
+use crate::unread::Unread;
 use pp_tok::token::{PpKind, PpTok};
 use qv_base::NoMemory;
 use qv_base::name::Name;
@@ -131,10 +132,10 @@ fn is_free(token: &PpTok) -> bool
 }
 
 // Whether a macro is object-like, or a call of it follows.
-fn is_used(found: &Macro, pending: &Items<Pending>) -> bool
-    ensures { result ≡ is_some (spec.if_called (reverse pending.now) found.now found.now.params) }
+fn is_used(found: &Macro, unread: &Unread<'_>) -> bool
+    ensures { result ≡ is_some (spec.if_called unread.now found.now found.now.params) }
 {
-    found.params.is_none() || opens(pending)
+    found.params.is_none() || unread.opens()
 }
 
 /// The macro that a token is to be replaced by, before these tokens.
@@ -148,9 +149,9 @@ pub fn due<'t>(
     table: &'t MacroTable,
     names: &[Name],
     token: &Pending,
-    pending: &Items<Pending>,
+    unread: &Unread<'_>,
 ) -> Result<Option<Found<'t>>, NoMemory>
-    ensures { Finds (spec.due table.now names.now token.now (reverse pending.now)) result }
+    ensures { Finds (spec.due table.now names.now token.now unread.now) result }
 {
     if !is_free(&token.token) {
         return Ok(None);
@@ -158,7 +159,7 @@ pub fn due<'t>(
     let Some(found) = meaning_of(alloc, table, names, token)? else {
         return Ok(None);
     };
-    if is_used(found.get(), pending) {
+    if is_used(found.get(), unread) {
         Ok(Some(found))
     } else {
         Ok(None)

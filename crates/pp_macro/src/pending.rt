@@ -1,10 +1,8 @@
-//! Tokens that are still to be read.
-ghost use Rattle.std.specs.Prelude.{◌≡◌, ◌∷◌, ◌++◌, OnOk, IfOk, reverse, Some};
+//! Single tokens that are still to be read, and what replacements bring.
+ghost use Rattle.std.specs.Prelude.{◌≡◌, ◌∷◌, ◌++◌, OnOk, IfOk, reverse};
 ghost use Rattle.pp_macro.specs.Calls as spec;
-ghost use Rattle.pp_macro.specs.Expand.{within};
 ghost use Rattle.pp_macro.specs.Tokens.{hiding};
 
-use crate::tokens::is_mark;
 use pp_tok::token::{PpTok, copy_names};
 use qv_base::NoMemory;
 use qv_base::name::Name;
@@ -38,30 +36,6 @@ pub struct Filling {
     pub tokens: Items<PpTok>,
     /// The names.
     pub names: Items<Name>,
-}
-
-/// Copies of tokens as a stack whose top is the first of them.
-///
-/// # Errors
-///
-/// NoMemory where memory for them is refused.
-pub fn stack_of(
-    alloc: Global,
-    tokens: &[PpTok],
-    outer: Option<Place>,
-) -> Result<Items<Pending>, NoMemory>
-    ensures { IfOk result (λ stack. reverse stack ≡ within outer tokens.now) }
-{
-    let mut stack = Items::new(alloc);
-    let mut rest = tokens;
-    while let Some((token, before)) = rest.split_last() {
-        stack.push(Pending {
-            token: token.copy(alloc)?,
-            outer,
-        })?;
-        rest = before;
-    }
-    Ok(stack)
 }
 
 // The token, hiding these names too.
@@ -140,21 +114,4 @@ fn put_all(
         })?;
     }
     Ok(())
-}
-
-/// Whether an opening parenthesis is the next token.
-pub fn opens(pending: &Items<Pending>) -> bool
-    ensures { result ≡ spec.opens (reverse pending.now) }
-{
-    match pending.as_slice().last() {
-        Some(next) => is_mark(&next.token, b"("),
-        None => false,
-    }
-}
-
-/// Passes the next token.
-pub fn drop_next(pending: &mut Items<Pending>)
-    ensures { reverse pending.new ≡ spec.tail_of (reverse pending.old) }
-{
-    pending.pop();
 }

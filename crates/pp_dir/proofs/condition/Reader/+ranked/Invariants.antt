@@ -1,4 +1,4 @@
-use Rattle.std.proofs.Common.{ℕ, ◌-◌}
+use Rattle.std.proofs.Common.{◌-◌}
 use Rattle.pp_dir.specs.Reading.{part, operand_at, ranked}
 use Rattle.pp_dir.specs.declared.part.Part.TheVariants.{Operand, Whole}
 use Rattle.pp_dir.proofs.Worths.{Chained}

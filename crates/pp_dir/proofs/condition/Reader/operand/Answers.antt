@@ -1,11 +1,11 @@
-use Rattle.std.proofs.Common.{◌≡◌, sym, ap, subst, ◌∙◌, Some, None, List, ◌∷◌}
-use Rattle.std.specs.Prelude.{Option, codes}
+use Rattle.std.proofs.Common.{sym, ap, subst, ◌∙◌, Some}
+use Rattle.std.specs.Prelude.{Option}
 use denote.Ref.{Bor}
 use Rattle.pp_tok.specs.declared.token.PpTok.{PpTok}
 use Rattle.pp_dir.specs.declared.worth.Worth.{Worth}
 use Rattle.pp_dir.specs.declared.part.Part.TheVariants.{Operand, Whole}
-use Rattle.pp_dir.specs.Reading.{part, operand_at}
-use Rattle.pp_dir.specs.Worth.{Takes, worth_read}
+use Rattle.pp_dir.specs.Reading.{part}
+use Rattle.pp_dir.specs.Worth.{Takes}
 use Rattle.pp_dir.proofs.Worths.{constant_reads}
 use Rattle.pp_dir.proofs.condition.Reader.operand.Goals as goal
 

@@ -1,6 +1,6 @@
-use Rattle.std.proofs.Common.{◌≡◌, ℕ, List, ◌-◌, Some, sym, subst, map, string_bytes}
+use Rattle.std.proofs.Common.{ℕ, List, ◌-◌, sym, subst, map, string_bytes}
 use Rattle.std.specs.Prelude.{Option, option_map}
-use Rattle.qv_outside.specs.FileMap.{FileMap, content}
+use Rattle.qv_outside.specs.FileMap.{content}
 use Rattle.pp_dir.specs.declared.search.Found.{Found}
 use Rattle.pp_dir.specs.Preprocessed.{file_in}
 use Rattle.pp_dir.specs.Endings.{Ends, found_shown}
