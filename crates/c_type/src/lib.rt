@@ -1,0 +1,4 @@
+//! Types of C.
+#![tactic(auto)]
+
+pub mod kind;
