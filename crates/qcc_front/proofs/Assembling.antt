@@ -73,10 +73,10 @@ is_unit e lines is fit few =
       short = omega (arith, few, length-append (sum_lines e) (Return ∷ []), length-append (term_lines e.first) (flat_map signed_lines e.rest), term_short e.first, rest_short e.rest);
     }
 
-pub assembles : (e : Sum) (lines : List UnitLine) (text : List ℕ) → lines ≡ unit_lines e → linked (text ∷ []) ≡ Ok (lines_image lines) → Assembles e text
-assembles e lines text is links = record {
+pub assembles : (e : Sum) (lines : List UnitLine) (text : List ℕ) → lines ≡ unit_lines e → linked (text ∷ []) ≡ Ok (lines_image lines) → length e.rest < 200 → Assembles e (text ∷ [])
+assembles e lines text is links few = record {
   image = unit_image e;
   links = links ∙ ap (λ ls. Ok (lines_image ls)) is ∙ ap Ok (image_is e);
   follows = follows e;
-  small = unit_short e;
+  small = omega (arith, unit_short e, few);
 }

@@ -1,4 +1,3 @@
-pub mod Tokens
 pub mod SignedTerms
 pub mod UnitCode
 pub mod SumRuns
@@ -6,3 +5,4 @@ pub mod UnitRuns
 pub mod CodeFacts
 pub mod Assembling
 pub mod Returned
+pub mod Compiling

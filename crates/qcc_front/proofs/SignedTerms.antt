@@ -5,7 +5,7 @@ use Rattle.std.specs.Str.{bytes_eq}
 use Rattle.qcc_front.specs.declared.sum.Term.{Term}
 use Rattle.qcc_front.specs.declared.sum.Sign.{Sign}
 use Rattle.qcc_front.specs.declared.sum.SignedTerm.{SignedTerm}
-use Rattle.qcc_front.specs.FirstForm.{sign_of, term_of, signed_and, rest_of, closed, tokens}
+use Rattle.qcc_front.specs.FirstForm.{sign_of, term_of, signed_and, rest_of, closed}
 
 -- terms before those that stand there
 abbrev pub with_terms : List SignedTerm → Option (List SignedTerm) → Option (List SignedTerm)
@@ -24,10 +24,10 @@ term_step terms s t ts sign term other is_sign is_term =
     ∙ ap (λ o. with_terms terms (signed_and (Some sign) o (rest_of ts))) (sym is_term)
     ∙ one_more terms (record { sign = sign; term = term }) (rest_of ts)
 
--- the same with the text's tokens
-pub term_step_at : (terms now : List SignedTerm) (s t text later last : List ℕ) (sign : Sign) (term : Term) → tokens text ≡ s ∷ tokens later → tokens later ≡ t ∷ tokens last →
+-- the same with the tokens that stand there
+pub term_step_at : (terms now : List SignedTerm) (s t : List ℕ) (toks last : List (List ℕ)) (sign : Sign) (term : Term) → toks ≡ s ∷ t ∷ last →
     bytes_eq s (codes ";") ≡ false → Some sign ≡ sign_of s → Some term ≡ term_of t → now ≡ terms ++ record { sign = sign; term = term } ∷ [] →
-    with_terms now (rest_of (tokens last)) ≡ with_terms terms (rest_of (tokens text))
-term_step_at terms now s t text later last sign term first second other is_sign is_term is =
-    sym (ap (λ ts. with_terms terms (rest_of ts)) (first ∙ ap (λ ts. s ∷ ts) second) ∙ term_step terms s t (tokens last) sign term other is_sign is_term
-    ∙ ap (λ l. with_terms l (rest_of (tokens last))) (sym is))
+    with_terms now (rest_of last) ≡ with_terms terms (rest_of toks)
+term_step_at terms now s t toks last sign term both other is_sign is_term is =
+    sym (ap (λ ts. with_terms terms (rest_of ts)) both ∙ term_step terms s t last sign term other is_sign is_term
+    ∙ ap (λ l. with_terms l (rest_of last)) (sym is))

@@ -1,8 +1,9 @@
 -- The first form of a unit: `int vmMain(int command) { return E; }`, where E is 1 to 200 terms joined by
 -- signs, and a term is `command` or a decimal constant of int.
-use Rattle.std.specs.Prelude.{ℕ, ◌-◌, ◌^◌, Bool, true, false, ◌&&◌, ◌||◌, ◌==◌, nat_lt, nat_le, List, [], ◌∷◌, length, codes, if◌then◌else◌, Option, Some, None, option_map, option_and_then, not}
+use Rattle.std.specs.Prelude.{ℕ, ◌-◌, ◌^◌, Bool, true, false, ◌==◌, nat_lt, List, [], ◌∷◌, length, map, codes, if◌then◌else◌, Option, Some, None, option_map, option_and_then, not}
 use Rattle.std.specs.Str.{bytes_eq}
-use Rattle.qv_base.specs.Decimal.{is_digit, decimal_up_to}
+use Rattle.qv_base.specs.Decimal.{decimal_up_to}
+use Rattle.pp_tok.specs.declared.token.PpTok.{PpTok}
 use Rattle.qcc_front.specs.declared.sum.Term.{Term}
 use Rattle.qcc_front.specs.declared.sum.Term.TheVariants.{Command, Number}
 use Rattle.qcc_front.specs.declared.sum.Sign.{Sign}
@@ -10,31 +11,9 @@ use Rattle.qcc_front.specs.declared.sum.Sign.TheVariants.{Plus, Minus}
 use Rattle.qcc_front.specs.declared.sum.SignedTerm.{SignedTerm}
 use Rattle.qcc_front.specs.Sum.{Sum}
 
--- a space, a tab, a carriage return or a line feed
-abbrev pub is_blank : ℕ → Bool
-is_blank b = (b == 32) || (b == 9) || (b == 13) || (b == 10)
-
--- a letter, a digit or an underscore
-abbrev pub is_word : ℕ → Bool
-is_word b = is_digit b || (nat_le 65 b && nat_le b 90) || (nat_le 97 b && nat_le b 122) || (b == 95)
-
--- a byte goes onto the first token
-abbrev pub onto : ℕ → List (List ℕ) → List (List ℕ)
-onto b [] = (b ∷ []) ∷ []
-onto b (t ∷ ts) = (b ∷ t) ∷ ts
-
-abbrev pub starts_word : List ℕ → Bool
-starts_word [] = false
-starts_word (b ∷ bs) = is_word b
-
--- a byte before a text with these tokens; joins says that a word begins the text
-abbrev pub before : ℕ → Bool → List (List ℕ) → List (List ℕ)
-before b joins ts = if is_blank b then ts else (if is_word b && joins then onto b ts else (b ∷ []) ∷ ts)
-
--- the tokens of a text: its longest words, and each other byte that is no blank
-unfoldable pub tokens : List ℕ → List (List ℕ)
-tokens [] = []
-tokens (b ∷ bs) = before b (starts_word bs) (tokens bs)
+-- what tokens say
+abbrev pub spellings : List PpTok → List (List ℕ)
+spellings toks = map (λ (t : PpTok). t.spelling) toks
 
 -- a zero stands before no other digit
 abbrev pub is_plain : List ℕ → Bool
@@ -92,6 +71,6 @@ header = codes "int" ∷ codes "vmMain" ∷ codes "(" ∷ codes "int" ∷ header
 abbrev pub limited : Sum → Option Sum
 limited e = if nat_lt (length e.rest) 200 then Some e else None
 
--- the sum that a unit of the first form returns; none where the text isn't one
-unfoldable pub unit_of : List ℕ → Option Sum
-unit_of text = option_and_then limited (option_and_then sum_of_tokens (behind header (tokens text)))
+-- the sum that a unit of the first form returns; none where these tokens aren't one
+unfoldable pub unit_of : List (List ℕ) → Option Sum
+unit_of toks = option_and_then limited (option_and_then sum_of_tokens (behind header toks))

@@ -2,7 +2,9 @@ pub mod Source
 pub mod Follows
 pub mod Sum
 pub mod FirstForm
-pub mod Token
 pub mod Translation
 pub mod Assembles
 pub mod Unit
+pub mod Job
+pub mod Accepted
+pub mod Compiled

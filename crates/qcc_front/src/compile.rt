@@ -1,106 +1,105 @@
-// Compiles a unit of the first form to assembly text.
-ghost use Rattle.std.specs.Prelude.{◌≡◌, [], ◌∷◌, ◌++◌, IfOk, OnOk, IsTrue, flat_map};
-ghost use Rattle.std.specs.List.{list_all};
-ghost use Rattle.qasm_write.specs.Unit.{constant_fits};
+// Compiles a job.
+ghost use Rattle.std.specs.Prelude.{◌≡◌, ◌∷◌, [], IfOk, IfSome, Some, None, map, string_bytes};
+ghost use Rattle.qv_outside.specs.FileMap.{content};
+ghost use Rattle.asm_link.specs.Shown.{texts_of};
+ghost use Rattle.pp_dir.specs.Endings.{keeper_of};
+ghost use Rattle.pp_dir.specs.Preprocessed.{preprocessed};
+ghost use Rattle.pp_dir.specs.Units.{definition_of};
+ghost use Rattle.qcc_front.specs.Accepted.{accepted, of_unit};
 ghost use Rattle.qcc_front.specs.Assembles.{Assembles};
-ghost use Rattle.qcc_front.specs.Translation.{term_lines, sign_line, signed_lines, unit_lines};
+ghost use Rattle.qcc_front.specs.Compiled.{IsCompiled, Keeps, names_of};
+ghost use Rattle.qcc_front.specs.Job.{job_shown, name_shown, single_unit};
+ghost use Rattle.qcc_front.specs.Sum.{Sum};
 ghost use Rattle.qcc_front.specs.Unit.{sum_of};
 
-use crate::sum::{Sign, SignedTerm, Term};
+use crate::fault::{CompileStop, stop_from};
+use crate::job::SourceJob;
+use crate::translate::translate;
 use crate::unit::Unit;
-use qasm_write::line::UnitLine;
-use qasm_write::write::write_unit;
+use asm_link::fault::AsmFile;
+use pp_dir::unit::preprocess;
 use qv_base::NoMemory;
+use qv_base::name::Name;
+use qv_outside::files::Files;
 use std::alloc::Global;
 
-/// The assembly text of a unit. Linked alone it gives an image that follows the unit.
+/// Assembly texts, one for each unit in order, under the units' names.
+#[derive(Debug, Drop)]
+pub struct Compiled {
+    /// The texts.
+    pub texts: Vec<AsmFile>,
+}
+
+impl SourceJob {
+    /// The one unit, where there are no others and no binds, which is what is served so far.
+    pub fn single_unit(&self) -> Option<&str>
+        ensures { name_shown result ≡ single_unit (job_shown self.now) }
+    {
+        match (self.units.as_slice(), &self.binds) {
+            ([unit], None) => Some(unit.as_str()),
+            _ => None,
+        }
+    }
+}
+
+/// Compiles the units of a job to assembly texts, which are linked to an image that follows their program.
+///
+/// Served so far is one unit without binds that is of the first form after preprocessing. No file changes.
 ///
 /// # Errors
 ///
-/// `NoMemory` where there is no room for the text.
-pub fn compile(alloc: Global, unit: &Unit) -> Result<Vec<u8>, NoMemory>
-    ensures { IfOk result (λ text. Assembles (sum_of unit.now) text.items) }
+/// The first thing that refuses, in the order in which files are read: Source with the first fault of the unit, Absent
+/// or TooLong with the name of the unit or of a file that it includes, NotYet for what isn't served yet. ReadFault with
+/// the name of a file whose read failed; NoMemory where memory is refused.
+pub fn compile<F: Files>(
+    alloc: Global,
+    job: &SourceJob,
+    files: &mut F,
+) -> Result<Compiled, CompileStop>
+    ensures told { IfSome (F.held files.old) (λ m. IsCompiled (accepted (content m) (job_shown job.now)) result) }
+    ensures assembles { IfOk result (λ compiled. (e : Sum) × Assembles e (texts_of compiled.texts.items)) }
+    ensures names { IfOk result (λ compiled. names_of compiled.texts.items ≡ map string_bytes job.now.units.items) }
+    ensures keeps { Keeps (keeper_of F.Files files.old) (keeper_of F.Files files.new) result }
 {
-    let lines = unit_lines(alloc, unit)?;
-    let text = write_unit(alloc, &lines)?;
-    Ok(text)
-}
-
-// The function is opened, the sum is computed and returned, and the function is closed.
-fn unit_lines(alloc: Global, unit: &Unit) -> Result<Vec<UnitLine>, NoMemory>
-    ensures lines { IfOk result (λ lines. lines.items ≡ unit_lines (sum_of unit.now)) }
-    ensures constants { IfOk result (λ lines. IsTrue (list_all constant_fits lines.items)) }
-{
-    let mut lines = Vec::new(alloc);
-    put(&mut lines, UnitLine::Open)?;
-    put_term(&mut lines, unit.first)?;
-    put_signed(&mut lines, &unit.rest)?;
-    put(&mut lines, UnitLine::Return)?;
-    put(&mut lines, UnitLine::Close)?;
-    Ok(lines)
-}
-
-fn put(lines: &mut Vec<UnitLine>, line: UnitLine) -> Result<(), NoMemory>
-    requires before { IsTrue (list_all constant_fits lines.old.items) }
-    requires last { IsTrue (constant_fits line) }
-    ensures lines { OnOk result (lines.new.items ≡ lines.old.items ++ line ∷ []) }
-    ensures constants { OnOk result (IsTrue (list_all constant_fits lines.new.items)) }
-{
-    lines.push(line)?;
-    Ok(())
-}
-
-fn put_term(lines: &mut Vec<UnitLine>, term: Term) -> Result<(), NoMemory>
-    requires { IsTrue (list_all constant_fits lines.old.items) }
-    ensures lines { OnOk result (lines.new.items ≡ lines.old.items ++ term_lines term) }
-    ensures constants { OnOk result (IsTrue (list_all constant_fits lines.new.items)) }
-{
-    match term {
-        Term::Command => {
-            put(lines, UnitLine::Parameter)?;
-            put(lines, UnitLine::Load)?;
-        }
-        Term::Number(n) => put(lines, UnitLine::Constant(n))?,
-    }
-    Ok(())
-}
-
-fn put_signed(lines: &mut Vec<UnitLine>, terms: &[SignedTerm]) -> Result<(), NoMemory>
-    requires { IsTrue (list_all constant_fits lines.old.items) }
-    ensures lines { OnOk result (lines.new.items ≡ lines.old.items ++ flat_map signed_lines terms.now) }
-    ensures constants { OnOk result (IsTrue (list_all constant_fits lines.new.items)) }
-{
-    for signed in terms {
-        put_term(lines, signed.term)?;
-        put(lines, sign_line(signed.sign))?;
-    }
-    Ok(())
-}
-
-fn sign_line(sign: Sign) -> UnitLine
-    ensures line { result ≡ sign_line sign }
-    ensures constant { IsTrue (constant_fits result) }
-{
-    match sign {
-        Sign::Plus => UnitLine::Add,
-        Sign::Minus => UnitLine::Subtract,
+    match job.single_unit() {
+        Some(name) => compile_unit(alloc, &job.dirs, &job.defs, name, files),
+        None => Err(CompileStop::NotYet),
     }
 }
 
-#[cfg(test)]
-mod tests {
-    use super::*;
-    use std::test::Fail;
+// Compiles one unit.
+#[tactic(auto, using(crate::proofs::Compiling::told_stop, crate::proofs::Compiling::told_not_first, crate::proofs::Compiling::told_first, crate::proofs::Compiling::keeps_read, crate::proofs::Compiling::keeps_stop))]
+fn compile_unit<F: Files>(
+    alloc: Global,
+    dirs: &[String],
+    defs: &[(String, String)],
+    name: &str,
+    files: &mut F,
+) -> Result<Compiled, CompileStop>
+    ensures told { IfSome (F.held files.old) (λ m. IsCompiled (of_unit (preprocessed (content m) (map string_bytes dirs.now) (map definition_of defs.now) name.now)) result) }
+    ensures assembles { IfOk result (λ compiled. (e : Sum) × Assembles e (texts_of compiled.texts.items)) }
+    ensures names { IfOk result (λ compiled. names_of compiled.texts.items ≡ name.now ∷ []) }
+    ensures keeps { Keeps (keeper_of F.Files files.old) (keeper_of F.Files files.new) result }
+{
+    let read = match preprocess(alloc, files, dirs, defs, name) {
+        Ok(read) => read,
+        Err(stop) => return Err(stop_from(stop)),
+    };
+    let Some(unit) = Unit::parse(alloc, read.toks.as_slice())? else {
+        return Err(CompileStop::NotYet);
+    };
+    let texts = texts_of_unit(alloc, name, &unit)?;
+    Ok(Compiled { texts })
+}
 
-    #[test]
-    fn compiles_a_sum(rt: HostRuntime) -> Result<(), Fail> {
-        let alloc = rt.alloc();
-        let text = b"int vmMain(int command) { return command+1; }";
-        let unit = Unit::parse(alloc, text)?.ok_or("not of the first form")?;
-        let text = compile(alloc, &unit)?;
-        let expected =
-            b"proc vmMain 0 0\nADDRFP4 0\nINDIRI4\nCNSTI4 1\nADDI4\nRETI4\nendproc vmMain 0 0\n";
-        assert_eq!(rt; text.as_slice(), expected.as_slice());
-        Ok(())
-    }
+// The unit's text alone, under the unit's name.
+fn texts_of_unit(alloc: Global, name: &str, unit: &Unit) -> Result<Vec<AsmFile>, NoMemory>
+    ensures names { IfOk result (λ texts. names_of texts.items ≡ name.now ∷ []) }
+    ensures texts { IfOk result (λ texts. Assembles (sum_of unit.now) (texts_of texts.items)) }
+{
+    let mut texts = Vec::new(alloc);
+    let text = translate(alloc, unit)?;
+    let name = Name::from_bytes(alloc, name.as_bytes())?;
+    texts.push(AsmFile { name, text })?;
+    Ok(texts)
 }

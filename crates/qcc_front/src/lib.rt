@@ -1,8 +1,13 @@
-// The compiler: reads a unit of the first form, and compiles it to assembly text whose image follows it.
+// The compiler: preprocesses a unit, reads it where it is of the first form, and translates it to assembly text whose
+// image follows it.
 #![tactic(auto)]
 
 pub mod compile;
+pub mod fault;
+pub mod job;
 mod parse;
 pub mod sum;
-mod token;
+#[cfg(test)]
+mod tests;
+mod translate;
 pub mod unit;

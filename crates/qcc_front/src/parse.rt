@@ -1,10 +1,10 @@
 // Reads a unit of the first form.
-ghost use Rattle.std.specs.Prelude.{◌≡◌, ◌∷◌, [], IfOk, MatchOption, option_map, None, is_some};
-ghost use Rattle.qcc_front.specs.FirstForm.{number_of, term_of, sign_of, rest_of, behind, header, header_end, tokens, closed};
+ghost use Rattle.std.specs.Prelude.{◌≡◌, ◌∷◌, [], IfOk, MatchOption, option_map, None};
+ghost use Rattle.qcc_front.specs.FirstForm.{number_of, term_of, sign_of, rest_of, behind, header, header_end, spellings, closed};
 
 use crate::sum::{Sign, SignedTerm, Term};
-use crate::token::token;
 use crate::unit::{MOST_TERMS, Unit};
+use pp_tok::token::PpTok;
 use qv_base::NoMemory;
 use qv_base::decimal::decimal_up_to;
 use std::alloc::Global;
@@ -15,25 +15,25 @@ impl Unit {
     ghost use Rattle.qcc_front.specs.FirstForm.{unit_of};
     ghost use Rattle.qcc_front.specs.Unit.{sum_of};
 
-    /// The unit that a text is. None exactly where the text isn't of the first form.
+    /// The unit that tokens are. None exactly where they aren't of the first form.
     ///
     /// # Errors
     ///
     /// NoMemory where memory for the terms is refused.
     #[tactic(auto, unfolding(crate::specs::FirstForm::unit_of))]
-    pub fn parse(alloc: Global, text: &[u8]) -> Result<Option<Unit>, NoMemory>
-        ensures unit { IfOk result (λ unit. option_map sum_of unit ≡ unit_of text.now) }
+    pub fn parse(alloc: Global, toks: &[PpTok]) -> Result<Option<Unit>, NoMemory>
+        ensures unit { IfOk result (λ unit. option_map sum_of unit ≡ unit_of (spellings toks.now)) }
     {
-        let Some(text) = function_body(text) else {
+        let Some(toks) = function_body(toks) else {
             return Ok(None);
         };
-        let Some((word, text)) = token(text) else {
+        let Some((word, toks)) = toks.split_first() else {
             return Ok(None);
         };
-        let Some(first) = term(word) else {
+        let Some(first) = term(word.spelling.bytes()) else {
             return Ok(None);
         };
-        let Some(rest) = signed_terms(alloc, text)? else {
+        let Some(rest) = signed_terms(alloc, toks)? else {
             return Ok(None);
         };
         if rest.len() >= MOST_TERMS {
@@ -43,69 +43,64 @@ impl Unit {
     }
 }
 
-// The text behind `int vmMain(int command) { return`.
-fn function_body(text: &[u8]) -> Option<&[u8]>
-    ensures { MatchOption result (behind header (tokens text.now) ≡ None) (λ rest. behind header (tokens text.now) ≡ Some (tokens rest.now)) }
+// The tokens behind `int vmMain(int command) { return`.
+fn function_body(toks: &[PpTok]) -> Option<&[PpTok]>
+    ensures { MatchOption result (behind header (spellings toks.now) ≡ None) (λ rest. behind header (spellings toks.now) ≡ Some (spellings rest.now)) }
 {
-    let text = parameter(text)?;
-    let text = expect(text, b"command")?;
-    let text = expect(text, b")")?;
-    let text = expect(text, b"{")?;
-    expect(text, b"return")
+    let toks = parameter(toks)?;
+    let toks = expect(toks, b"command")?;
+    let toks = expect(toks, b")")?;
+    let toks = expect(toks, b"{")?;
+    expect(toks, b"return")
 }
 
-// The text behind `int vmMain(int`.
-fn parameter(text: &[u8]) -> Option<&[u8]>
-    ensures { MatchOption result (behind header (tokens text.now) ≡ None) (λ rest. behind header (tokens text.now) ≡ behind header_end (tokens rest.now)) }
+// The tokens behind `int vmMain(int`.
+fn parameter(toks: &[PpTok]) -> Option<&[PpTok]>
+    ensures { MatchOption result (behind header (spellings toks.now) ≡ None) (λ rest. behind header (spellings toks.now) ≡ behind header_end (spellings rest.now)) }
 {
-    let text = expect(text, b"int")?;
-    let text = expect(text, b"vmMain")?;
-    let text = expect(text, b"(")?;
-    expect(text, b"int")
+    let toks = expect(toks, b"int")?;
+    let toks = expect(toks, b"vmMain")?;
+    let toks = expect(toks, b"(")?;
+    expect(toks, b"int")
 }
 
-// The text behind this token.
-fn expect<'a>(text: &'a [u8], word: &[u8]) -> Option<&'a [u8]>
-    ensures { MatchOption result (behind (word.now ∷ []) (tokens text.now) ≡ None) (λ rest. tokens text.now ≡ word.now ∷ tokens rest.now) }
+// The tokens behind this one.
+fn expect<'a>(toks: &'a [PpTok], word: &[u8]) -> Option<&'a [PpTok]>
+    ensures { MatchOption result (behind (word.now ∷ []) (spellings toks.now) ≡ None) (λ rest. spellings toks.now ≡ word.now ∷ spellings rest.now) }
 {
-    let (first, rest) = token(text)?;
-    if first == word { Some(rest) } else { None }
-}
-
-// The signs and terms behind the first term, to the unit's end.
-fn signed_terms(alloc: Global, text: &[u8]) -> Result<Option<Vec<SignedTerm>>, NoMemory>
-    ensures { IfOk result (λ r. option_map (λ terms. terms.items) r ≡ rest_of (tokens text.now)) }
-{
-    let mut terms = Vec::new(alloc);
-    let mut text = text;
-    loop {
-        let Some((first, after)) = token(text) else {
-            return Ok(None);
-        };
-        if first == b";".as_slice() {
-            return Ok(if is_closed(after) { Some(terms) } else { None });
-        }
-        let Some(sign) = sign(first) else {
-            return Ok(None);
-        };
-        let Some((second, after)) = token(after) else {
-            return Ok(None);
-        };
-        let Some(term) = term(second) else {
-            return Ok(None);
-        };
-        terms.push(SignedTerm { sign, term })?;
-        text = after;
+    let (first, rest) = toks.split_first()?;
+    if first.spelling.bytes() == word {
+        Some(rest)
+    } else {
+        None
     }
 }
 
-// Whether the closing brace stands there and nothing more.
-fn is_closed(text: &[u8]) -> bool
-    ensures { result ≡ is_some (closed (tokens text.now)) }
+// The signs and terms behind the first term, to the unit's end.
+fn signed_terms(alloc: Global, toks: &[PpTok]) -> Result<Option<Vec<SignedTerm>>, NoMemory>
+    ensures { IfOk result (λ r. option_map (λ terms. terms.items) r ≡ rest_of (spellings toks.now)) }
 {
-    match token(text) {
-        Some((first, rest)) => first == b"}".as_slice() && token(rest).is_none(),
-        None => false,
+    let mut terms = Vec::new(alloc);
+    let mut toks = toks;
+    loop {
+        let Some((first, rest)) = toks.split_first() else {
+            return Ok(None);
+        };
+        let Some((second, rest)) = rest.split_first() else {
+            return Ok(None);
+        };
+        if first.spelling.bytes() == b";".as_slice() {
+            let closed = second.spelling.bytes() == b"}".as_slice() && rest.is_empty();
+            return Ok(if closed { Some(terms) } else { None });
+        }
+        let Some(sign) = sign(first.spelling.bytes()) else {
+            return Ok(None);
+        };
+        let Some(term) = term(second.spelling.bytes()) else {
+            return Ok(None);
+        };
+        terms.push(SignedTerm { sign, term })?;
+        toks = rest;
     }
 }
 

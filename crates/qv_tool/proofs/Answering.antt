@@ -7,7 +7,7 @@ use Rattle.qv_outside.specs.FileMap.{FileMap}
 use Rattle.qv_outside.specs.Told.{Appends}
 use Rattle.qv_tool.specs.declared.report.Report.{Report}
 use Rattle.qv_tool.specs.declared.status.Status.{Status}
-use Rattle.qv_tool.specs.declared.status.Status.TheVariants.{Done, Usage, Missing, NotYet, Assembly, Image, Stopped, Budget, ReadFault, WriteFault, HostFault, NoMemory}
+use Rattle.qv_tool.specs.declared.status.Status.TheVariants.{Done, Usage, Missing, NotYet, Source, Assembly, Image, Stopped, Budget, ReadFault, WriteFault, HostFault, NoMemory}
 use Rattle.qv_tool.specs.Answers.{BreaksOff, Completed, Completes, LineFailed, ReadFailed, Refused, Refuses, Reports, WriteFailed}
 use Rattle.qv_tool.specs.Causes.{HasCause, IsServed, IsSilent, IsUnserved, MayBeUnready}
 use Rattle.qv_tool.specs.Ending.{line}
@@ -25,7 +25,7 @@ module _ (c : Option Command) (held : FileMap) (before after : World) where
   CalledFor status = IsCalledFor (refusal_of (verdict held c)) status ⊎ (kind_of status ≡ Fault ⊎ kind_of status ≡ Want)
 
   completes_called : (v : Verdict) (text : List ℕ) (status : Status) → kind_of status ≡ End → Completes held before.around after text status v → IsCalledFor (refusal_of v) status
-  completes_called (Compiles name run) text status end completes = end
+  completes_called (Compiles names run) text status end completes = end
   completes_called (Links image z) text status end completes = end
   completes_called (Disassembles file z) text status end completes = end
   completes_called (Runs steps calls z) text status end completes = end
@@ -45,6 +45,7 @@ module _ (c : Option Command) (held : FileMap) (before after : World) where
   refuses text Usage is reports = reports
   refuses text NotYet is reports = reports
   refuses text Missing is reports = reports
+  refuses text Source is reports = reports
   refuses text Assembly is reports = reports
   refuses text Image is reports = reports
   refuses text status is reports = absurd (cc is)

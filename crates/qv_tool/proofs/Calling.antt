@@ -7,6 +7,7 @@ use Rattle.qv_outside.specs.FileMap.{FileMap, with_file}
 use Rattle.vm_core.specs.declared.stop.Stop.{Stop}
 use Rattle.vm_core.specs.declared.stop.Stop.TheVariants.{Returned, Budget as StepsUsed, HostFault as HostFailed, OutFault}
 use Rattle.qcc_front.specs.Source.{SourceRun}
+use Rattle.pp_dir.specs.Endings.{Keeper}
 use Rattle.qv_tool.specs.declared.report.Report.{Report}
 use Rattle.qv_tool.specs.declared.status.Status.TheVariants.{NoMemory, ReadFault}
 use Rattle.qv_tool.specs.Answers.{BreaksOff, Completes, Reports}
@@ -18,7 +19,7 @@ use Rattle.qv_tool.specs.Status.{Refusal, kind_of}
 use Rattle.qv_tool.specs.Task.{Task, task_of}
 use Rattle.qv_tool.specs.Verdict.{Verdict, Builds, Runs, verdict}
 use Rattle.qv_tool.specs.Work.{Stored, Works}
-use Rattle.qv_tool.specs.World.{Keeper, World}
+use Rattle.qv_tool.specs.World.{World}
 use Rattle.qv_tool.proofs.Told.{along_both, kept, told_before}
 use Rattle.qv_tool.proofs.Working.{says_works, wants_works}
 use Rattle.qv_words.specs.Words.{Command}

@@ -8,10 +8,10 @@ use Rattle.qv_outside.specs.Causes.{Rose}
 use Rattle.qv_outside.specs.FileMap.{FileMap, Reads, ReadGives, content, failed_by_read}
 use Rattle.qv_outside.specs.declared.files.FileFault.{FileFault}
 use Rattle.qv_outside.specs.declared.files.FileFault.TheVariants.{Absent, TooLong, Failed, NoMemory as ReadNoMemory}
+use Rattle.pp_dir.specs.Endings.{Keeper}
 use Rattle.qv_tool.specs.declared.report.Report.{Report}
 use Rattle.qv_tool.specs.Gathered.{Gathered, Found, Lacking, Overlong, gather_one, gathered, with_text}
 use Rattle.qv_tool.specs.Work.{IsRefused, SaysUnread}
-use Rattle.qv_tool.specs.World.{Keeper}
 use Rattle.qv_tool.proofs.Told.{along_both, below, not_below, read_gives, told_before}
 
 -- several contents before the others

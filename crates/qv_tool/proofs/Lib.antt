@@ -1,6 +1,7 @@
 pub mod Told
 pub mod Working
 pub mod Refusing
+pub mod Compiling
 pub mod Linking
 pub mod Listing
 pub mod Gathering

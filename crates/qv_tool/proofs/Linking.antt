@@ -6,9 +6,10 @@ use Rattle.std.proofs.lemmas.List.Elements.{Contains-append_right}
 use Rattle.qv_base.specs.declared.NoMemory.{NoMemory as Wanting}
 use Rattle.qv_outside.specs.Causes.{Rose}
 use Rattle.qv_outside.specs.FileMap.{FileMap, Reads, ReadGives, content}
+use Rattle.pp_dir.specs.Endings.{Keeper}
 use Rattle.qv_tool.specs.declared.report.Report.{Report}
 use Rattle.qv_tool.specs.declared.status.Status.{Status}
-use Rattle.qv_tool.specs.declared.status.Status.TheVariants.{Done, Usage, Missing, NotYet, Assembly, Image, Stopped, Budget, ReadFault, WriteFault, HostFault, NoMemory}
+use Rattle.qv_tool.specs.declared.status.Status.TheVariants.{Done, Usage, Missing, NotYet, Source, Assembly, Image, Stopped, Budget, ReadFault, WriteFault, HostFault, NoMemory}
 use Rattle.qv_tool.specs.Answers.{Reports}
 use Rattle.qv_tool.specs.Causes.{HasCause}
 use Rattle.qv_tool.specs.Ending.{line}
@@ -16,7 +17,7 @@ use Rattle.qv_tool.specs.Names.{names_in}
 use Rattle.qv_tool.specs.Task.{Task, Assemble, AssembleList, task_of}
 use Rattle.qv_tool.specs.Verdict.{listed, listed_in, of_list, of_task, read_for, verdict}
 use Rattle.qv_tool.specs.Work.{Asks, Leaves, Works}
-use Rattle.qv_tool.specs.World.{Keeper, Surroundings, world}
+use Rattle.qv_tool.specs.World.{Surroundings, world}
 use Rattle.qv_tool.proofs.Told.{along, along_both, if_told, read_gives, read_goes, read_stays, told_before}
 use Rattle.qv_words.specs.Words.{Command}
 
@@ -44,6 +45,7 @@ module _ (c : Option Command) (around : Surroundings) (before mid after : Keeper
   reports_since text held Usage reports = reports
   reports_since text held NotYet reports = reports
   reports_since text held Missing reports = reports
+  reports_since text held Source reports = reports
   reports_since text held Assembly reports = reports
   reports_since text held Image reports = reports
   reports_since text held NoMemory reports = reports

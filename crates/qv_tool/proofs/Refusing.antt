@@ -13,6 +13,7 @@ use Rattle.asm_link.specs.Link.{linked}
 use Rattle.asm_link.specs.declared.fault.AsmFault.{AsmFault}
 use Rattle.asm_link.specs.declared.fault.AsmKind.{AsmKind}
 use Rattle.asm_link.specs.declared.fault.AsmKind.TheVariants.{NoMemory as LinkNoMemory}
+use Rattle.pp_dir.specs.Endings.{Keeper}
 use Rattle.qv_tool.specs.declared.report.Report.{Report}
 use Rattle.qv_tool.specs.declared.status.Status.TheVariants.{Assembly, Image, Missing}
 use Rattle.qv_tool.specs.Assembly.{fault_text}
@@ -23,7 +24,7 @@ use Rattle.qv_tool.specs.Gathered.{Found, Lacking, Overlong, gathered}
 use Rattle.qv_tool.specs.Task.{Task, task_of}
 use Rattle.qv_tool.specs.Verdict.{Verdict, Absent, Damaged, TooLong, Unlinked, name_at, of_gathered, of_linked, read_for, verdict}
 use Rattle.qv_tool.specs.Work.{Asks, IsRefused, Says, SaysDamaged, SaysUnlinked, Works}
-use Rattle.qv_tool.specs.World.{Keeper, Surroundings, world}
+use Rattle.qv_tool.specs.World.{Surroundings, world}
 use Rattle.qv_tool.proofs.Told.{along, along_both, verdict_on}
 use Rattle.qv_tool.proofs.Working.{read_failed_works, refused_works, unwritten_works}
 use Rattle.qv_words.specs.Words.{Command}

@@ -7,16 +7,17 @@ use Rattle.qv_outside.specs.Causes.{Rose}
 use Rattle.qv_outside.specs.FileMap.{FileMap, content, with_file, Reads, ReadGives, failed_by_read}
 use Rattle.qv_outside.specs.declared.files.FileFault.{FileFault}
 use Rattle.qv_outside.specs.declared.files.FileFault.TheVariants.{Absent as IsAbsent, TooLong as IsTooLong, Failed, NoMemory as ReadNoMemory}
+use Rattle.pp_dir.specs.Endings.{Keeper}
 use Rattle.qv_tool.specs.declared.report.Report.{Report}
 use Rattle.qv_tool.specs.declared.status.Status.{Status}
-use Rattle.qv_tool.specs.declared.status.Status.TheVariants.{Done, Usage, Missing, NotYet, Assembly, Image, ReadFault, WriteFault, NoMemory}
+use Rattle.qv_tool.specs.declared.status.Status.TheVariants.{Done, Usage, Missing, NotYet, Source, Assembly, Image, ReadFault, WriteFault, NoMemory}
 use Rattle.qv_tool.specs.Answers.{BreaksOff, Completes, Finishes, Refuses, Reports}
 use Rattle.qv_tool.specs.Causes.{HasCause, IsServed, IsSilent}
 use Rattle.qv_tool.specs.Ending.{line}
 use Rattle.qv_tool.specs.Status.{Refusal, kind_of}
 use Rattle.qv_tool.specs.Verdict.{Verdict, Absent, TooLong, named_in, of_source, refusal_of, verdict}
 use Rattle.qv_tool.specs.Work.{Delivers, Keeps, Says, SaysTorn, SaysUnread, Stored, TornAt, Works}
-use Rattle.qv_tool.specs.World.{Keeper, Surroundings, World, world}
+use Rattle.qv_tool.specs.World.{Surroundings, World, world}
 use Rattle.qv_tool.specs.Written.{Writes}
 use Rattle.qv_tool.proofs.Told.{along, along_both, kept, not_below, read_gives, read_stays, told_before}
 use Rattle.qv_words.specs.Words.{Command}
@@ -66,6 +67,7 @@ module _ (c : Option Command) (around : Surroundings) (before after : Keeper) wh
   refusal_told Usage text held is refuses = refuses
   refusal_told NotYet text held is refuses = refuses
   refusal_told Missing text held is refuses = refuses
+  refusal_told Source text held is refuses = refuses
   refusal_told Assembly text held is refuses = refuses
   refusal_told Image text held is refuses = refuses
   refusal_told status text held is refuses = absurd (cc is)
@@ -99,8 +101,8 @@ module _ (c : Option Command) (around : Surroundings) (before after : Keeper) wh
     too_long : (held : FileMap) → verdict held c ≡ of_source name (go held) (content held name) → ReadGives held name (Err IsTooLong) → verdict held c ≡ TooLong name
     too_long held e gives = e ∙ ap (of_source name (go held)) gives.1 ∙ ap (λ b. if b then go held gives.0 else TooLong name) (not_below (length gives.0) (2 ^ 31) gives.2)
 
-    abbrev Source : FileMap → Type 0
-    Source held = verdict held c ≡ of_source name (go held) (content held name)
+    abbrev OfFile : FileMap → Type 0
+    OfFile held = verdict held c ≡ of_source name (go held) (content held name)
 
     pub unread_works : (fault : FileFault) (result : Result Report Wanting) → Reads before.held after.held name (Err fault) → IfSome before.held (λ _. after.failed ≡ failed_by_read before.failed name (Err fault)) → (IsErrOf {T = Vec ℕ} {E = FileFault} (Err fault) Failed → Rose before.read_faults after.read_faults) →
         Says_so fault result → Done_so result
@@ -108,12 +110,12 @@ module _ (c : Option Command) (around : Surroundings) (before after : Keeper) wh
     unread_works IsAbsent (Ok report) reads named cause says =
         let G : FileMap → Type 0 = λ held. ReadGives held name (Err IsAbsent) in
         let V : FileMap → Type 0 = λ held. verdict held c ≡ Absent name in
-        refused_works (Absent name) Missing (line (codes "absent: " ++ name)) (Ok report) (along_both Source G V before.held (λ held e gives. e ∙ ap (of_source name (go held)) gives) is (read_gives before.held after.held name (Err IsAbsent) reads))
+        refused_works (Absent name) Missing (line (codes "absent: " ++ name)) (Ok report) (along_both OfFile G V before.held (λ held e gives. e ∙ ap (of_source name (go held)) gives) is (read_gives before.held after.held name (Err IsAbsent) reads))
         (read_stays before.held after.held name (Err IsAbsent) reads) refl refl served says
     unread_works IsTooLong (Ok report) reads named cause says =
         let G : FileMap → Type 0 = λ held. ReadGives held name (Err IsTooLong) in
         let V : FileMap → Type 0 = λ held. verdict held c ≡ TooLong name in
-        refused_works (TooLong name) Missing (line (codes "too long: " ++ name)) (Ok report) (along_both Source G V before.held too_long is (read_gives before.held after.held name (Err IsTooLong) reads))
+        refused_works (TooLong name) Missing (line (codes "too long: " ++ name)) (Ok report) (along_both OfFile G V before.held too_long is (read_gives before.held after.held name (Err IsTooLong) reads))
         (read_stays before.held after.held name (Err IsTooLong) reads) refl refl served says
     unread_works Failed (Ok report) reads named cause says = read_failed_works name report served needed (read_stays before.held after.held name (Err Failed) reads) named (cause refl) says
     unread_works ReadNoMemory (Ok report) reads named cause says = absurd says

@@ -6,13 +6,14 @@ use Rattle.qv_outside.specs.FileMap.{FileMap, with_file}
 use Rattle.qv_outside.specs.Told.{Appends, AppendsPrefix}
 use Rattle.vm_core.specs.declared.stop.Stop.{Stop}
 use Rattle.qcc_front.specs.Source.{SourceRun}
+use Rattle.pp_dir.specs.Endings.{Keeper}
 use Rattle.qv_tool.specs.declared.status.Status.{Status}
-use Rattle.qv_tool.specs.declared.status.Status.TheVariants.{Done, Usage, Missing, NotYet, Assembly, Image, Stopped, Budget, ReadFault, WriteFault, HostFault, NoMemory}
+use Rattle.qv_tool.specs.declared.status.Status.TheVariants.{Done, Usage, Missing, NotYet, Source, Assembly, Image, Stopped, Budget, ReadFault, WriteFault, HostFault, NoMemory}
 use Rattle.qv_tool.specs.Built.{Agrees, IsFollower}
 use Rattle.qv_tool.specs.Ending.{Tells, line}
 use Rattle.qv_tool.specs.Played.{Played}
 use Rattle.qv_tool.specs.Verdict.{Verdict, Compiles, Disassembles, Links, Runs, Builds, named_in, refusal_of, verdict}
-use Rattle.qv_tool.specs.World.{Keeper, Surroundings, World}
+use Rattle.qv_tool.specs.World.{Surroundings, World}
 use Rattle.qv_tool.specs.Written.{TornFile, Wrote, WroteSome}
 use Rattle.qv_words.specs.Words.{Command}
 
@@ -52,7 +53,7 @@ pub record BuildsImage (steps : ℕ) (calls : List (List ℕ)) (name : List ℕ)
 -- how a command comes to this status, once its files are written and its calls, if it makes any, have come to their
 -- end: a fault of the host or of the output ends them, too
 abbrev pub Completes : FileMap → Surroundings → World → List ℕ → Status → Verdict → Type 0
-Completes old before after text status (Compiles name run) = Finishes (Compiles name run) old before after status text
+Completes old before after text status (Compiles names run) = Finishes (Compiles names run) old before after status text
 Completes old before after text status (Links image z) = Finishes (Links image z) old before after status text
 Completes old before after text status (Disassembles file z) = Finishes (Disassembles file z) old before after status text
 Completes old before after text status (Runs steps calls z) = CallsImage steps calls z old before after status text
@@ -80,6 +81,7 @@ Reports c old before after text HostFault = Completes old before.around after te
 Reports c old before after text Usage = Refuses (verdict old c) old before.around after Usage text
 Reports c old before after text NotYet = Refuses (verdict old c) old before.around after NotYet text
 Reports c old before after text Missing = Refuses (verdict old c) old before.around after Missing text
+Reports c old before after text Source = Refuses (verdict old c) old before.around after Source text
 Reports c old before after text Assembly = Refuses (verdict old c) old before.around after Assembly text
 Reports c old before after text Image = Refuses (verdict old c) old before.around after Image text
 Reports c old before after text ReadFault = (unread : Unread c old before.files after.files) × (text ≡ line (codes "read fault: " ++ unread.name)) × (after.around ≡ before.around)

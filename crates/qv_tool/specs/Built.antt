@@ -1,5 +1,5 @@
 -- What a unit is built to, and what its program says of the calls of its image.
-use Rattle.std.specs.Prelude.{◌≡◌, ℕ, ◌+◌, ◌*◌, ◌<◌, ◌≤◌, ◌⊎◌, List, [], ◌∷◌, length, Ok}
+use Rattle.std.specs.Prelude.{◌≡◌, ℕ, ◌+◌, ◌*◌, ◌<◌, ◌≤◌, ◌⊎◌, List, length, Ok}
 use Rattle.qv_image.specs.Image.{Qvm, IsImage, file_bytes}
 use Rattle.qv_outside.specs.Event.{Event, Reply}
 use Rattle.qv_outside.specs.Hosts.{Table}
@@ -17,10 +17,10 @@ pub record IsBuilt (run : SourceRun) (z : Qvm) : Type 0 where
   pub follows : Follows run z
   pub small : length z.code ≤ 10000000
 
--- the text alone is linked to such an image
-pub record Assembles (run : SourceRun) (text : List ℕ) : Type 0 where
+-- the texts are linked to such an image
+pub record Assembles (run : SourceRun) (texts : List (List ℕ)) : Type 0 where
   pub image : Qvm
-  pub links : linked (text ∷ []) ≡ Ok image
+  pub links : linked texts ≡ Ok image
   pub built : IsBuilt run image
 
 -- the file is that of such an image

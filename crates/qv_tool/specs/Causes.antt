@@ -20,8 +20,8 @@ IsUnserved (Some c) = IsNone (task_of c)
 
 -- the task reads a unit, whose form may not be served yet
 abbrev pub ReadsUnit : Task → Type 0
-ReadsUnit (Compile folder unit) = Unit {0}
-ReadsUnit (Build steps calls image unit) = Unit {0}
+ReadsUnit (Compile folder job) = Unit {0}
+ReadsUnit (Build steps calls image job) = Unit {0}
 ReadsUnit task = ⊥
 
 -- the form of the command isn't served yet, or that of its unit may not be
@@ -42,7 +42,7 @@ HasCause c before after status = IsServed c
 -- the task calls an image
 abbrev pub Calls : Option Task → Type 0
 Calls (Some (Run steps calls image)) = Unit {0}
-Calls (Some (Build steps calls image unit)) = Unit {0}
+Calls (Some (Build steps calls image job)) = Unit {0}
 Calls task = ⊥
 
 -- the words stand for a command that calls an image

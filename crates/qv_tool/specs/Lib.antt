@@ -3,6 +3,7 @@ pub mod Task
 pub mod Ending
 pub mod Assembly
 pub mod Damage
+pub mod Faulty
 pub mod Names
 pub mod Gathered
 pub mod World

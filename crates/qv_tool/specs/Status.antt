@@ -1,11 +1,12 @@
 -- The numbers of statuses, and their kinds.
 use Rattle.std.specs.Prelude.{ℕ}
 use Rattle.qv_tool.specs.declared.status.Status.{Status}
-use Rattle.qv_tool.specs.declared.status.Status.TheVariants.{Done, Usage, Assembly, Image, Stopped, Budget, Missing, ReadFault, WriteFault, HostFault, NoMemory, NotYet}
+use Rattle.qv_tool.specs.declared.status.Status.TheVariants.{Done, Usage, Source, Assembly, Image, Stopped, Budget, Missing, ReadFault, WriteFault, HostFault, NoMemory, NotYet}
 
 abbrev pub code_of : Status → ℕ
 code_of Done = 0
 code_of Usage = 1
+code_of Source = 2
 code_of Assembly = 3
 code_of Image = 4
 code_of Stopped = 5
@@ -34,6 +35,7 @@ kind_of Budget = End
 kind_of Usage = Refusal
 kind_of NotYet = Refusal
 kind_of Missing = Refusal
+kind_of Source = Refusal
 kind_of Assembly = Refusal
 kind_of Image = Refusal
 kind_of ReadFault = Fault

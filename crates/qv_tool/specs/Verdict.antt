@@ -1,5 +1,5 @@
 -- What a command and the files call for.
-use Rattle.std.specs.Prelude.{◌≡◌, ℕ, ◌^◌, nat_lt, List, [], ◌∷◌, ◌++◌, length, codes, if◌then◌else◌, Option, Some, None, Result, Ok, Err, slice_get, unwrap_or}
+use Rattle.std.specs.Prelude.{◌≡◌, ℕ, ◌^◌, nat_lt, List, [], ◌∷◌, ◌++◌, length, map, codes, if◌then◌else◌, Option, Some, None, Result, Ok, Err, slice_get, unwrap_or}
 use Rattle.qv_image.specs.Image.{Qvm}
 use Rattle.qv_image.specs.Read.{read_bytes}
 use Rattle.qv_image.specs.declared.fault.ImageFault.{ImageFault}
@@ -7,14 +7,18 @@ use Rattle.qv_outside.specs.FileMap.{FileMap, content}
 use Rattle.asm_link.specs.declared.fault.AsmFault.{AsmFault}
 use Rattle.asm_link.specs.declared.fault.AsmKind.TheVariants.{BadList}
 use Rattle.asm_link.specs.Link.{linked}
-use Rattle.qcc_front.specs.FirstForm.{unit_of}
+use Rattle.qcc_front.specs.declared.fault.CompileStop.{CompileStop}
+use Rattle.qcc_front.specs.declared.fault.CompileStop.TheVariants as stop
+use Rattle.qcc_front.specs.declared.fault.SourceFault.{SourceFault}
+use Rattle.qcc_front.specs.Accepted.{Outcome, accepted, tried_by}
 use Rattle.qcc_front.specs.Source.{SourceRun}
-use Rattle.qcc_front.specs.Sum.{Sum, sum_run}
+use Rattle.qcc_front.specs.Sum.{sum_run}
 use Rattle.qv_tool.specs.declared.status.Status.{Status}
-use Rattle.qv_tool.specs.declared.status.Status.TheVariants.{Usage, Missing, NotYet, Assembly, Image}
+use Rattle.qv_tool.specs.declared.status.Status.TheVariants.{Usage, Missing, NotYet, Source, Assembly, Image}
 use Rattle.qv_tool.specs.Assembly.{fault_text}
 use Rattle.qv_tool.specs.Damage.{damage_text}
 use Rattle.qv_tool.specs.Ending.{line}
+use Rattle.qv_tool.specs.Faulty.{source_text}
 use Rattle.qv_tool.specs.Gathered.{Gathered, Found, Lacking, Overlong, gathered}
 use Rattle.qv_tool.specs.Names.{names_in}
 use Rattle.qv_tool.specs.Status.{End, kind_of}
@@ -34,8 +38,10 @@ pub data Verdict : Type 0 where
   Damaged : ImageFault → Verdict
   -- the assembly isn't linked, for this fault in the file of this name
   Unlinked : List ℕ → AsmFault → Verdict
-  -- the program is compiled to a text of this name
-  Compiles : List ℕ → SourceRun → Verdict
+  -- the units aren't compiled, for this fault
+  Uncompiled : SourceFault → Verdict
+  -- the program is compiled to texts of these names
+  Compiles : List (List ℕ) → SourceRun → Verdict
   -- the image is written as assembly to the file of this name
   Disassembles : List ℕ → Qvm → Verdict
   -- the assembly files are linked to the image of this name
@@ -50,10 +56,19 @@ abbrev pub of_source : List ℕ → (List ℕ → Verdict) → Option (List ℕ)
 of_source name go None = Absent name
 of_source name go (Some bytes) = if nat_lt (length bytes) (2 ^ 31) then go bytes else TooLong name
 
--- what a unit calls for
-abbrev pub of_unit : (SourceRun → Verdict) → Option Sum → Verdict
-of_unit go None = Unready
-of_unit go (Some e) = go (sum_run e)
+-- what keeps units from being compiled; the files call for neither of the last two
+abbrev pub of_stop : CompileStop → Verdict
+of_stop (stop.Source fault) = Uncompiled fault
+of_stop (stop.Absent name) = Absent name
+of_stop (stop.TooLong name) = TooLong name
+of_stop stop.NotYet = Unready
+of_stop (stop.ReadFault name) = Unready
+of_stop stop.NoMemory = Unready
+
+-- what a job calls for
+abbrev pub of_accepted : (SourceRun → Verdict) → Outcome → Verdict
+of_accepted go (Ok accepted) = go (sum_run accepted.program)
+of_accepted go (Err refused) = of_stop refused.stop
 
 -- what the contents of several files call for
 abbrev pub of_gathered : (List (List ℕ) → Verdict) → Gathered → Verdict
@@ -88,12 +103,12 @@ of_image steps calls (Err fault) = Damaged fault
 -- the first thing that refuses, in the order of the task, or what is done
 abbrev pub of_task : FileMap → Option Task → Verdict
 of_task files None = Unready
-of_task files (Some (Compile folder unit)) = of_source unit (λ bytes. of_unit (Compiles (text_name folder unit)) (unit_of bytes)) (content files unit)
+of_task files (Some (Compile folder job)) = of_accepted (Compiles (map (text_name folder) job.units)) (accepted (content files) job)
 of_task files (Some (Assemble image names)) = of_files files image names
 of_task files (Some (AssembleList image list)) = of_source list (λ bytes. of_list files image list (names_in bytes)) (content files list)
 of_task files (Some (Disassemble image file)) = of_source image (λ bytes. of_text file (read_bytes bytes)) (content files image)
 of_task files (Some (Run steps calls image)) = of_source image (λ bytes. of_image steps calls (read_bytes bytes)) (content files image)
-of_task files (Some (Build steps calls image unit)) = of_source unit (λ bytes. of_unit (Builds steps calls image) (unit_of bytes)) (content files unit)
+of_task files (Some (Build steps calls image job)) = of_accepted (Builds steps calls image) (accepted (content files) job)
 
 abbrev pub verdict : FileMap → Option Command → Verdict
 verdict files None = Unreadable
@@ -111,12 +126,12 @@ listed (Some bytes) = listed_in (names_in bytes)
 -- the names of the files that are read for a task
 abbrev pub read_for : FileMap → Option Task → List (List ℕ)
 read_for files None = []
-read_for files (Some (Compile folder unit)) = unit ∷ []
+read_for files (Some (Compile folder job)) = tried_by (accepted (content files) job)
 read_for files (Some (Assemble image names)) = names
 read_for files (Some (AssembleList image list)) = list ∷ listed (content files list)
 read_for files (Some (Disassemble image file)) = image ∷ []
 read_for files (Some (Run steps calls image)) = image ∷ []
-read_for files (Some (Build steps calls image unit)) = unit ∷ []
+read_for files (Some (Build steps calls image job)) = tried_by (accepted (content files) job)
 
 abbrev pub named_in : FileMap → Option Command → List (List ℕ)
 named_in files None = []
@@ -137,6 +152,7 @@ refusal_of Unready = refusal NotYet (codes "not yet")
 refusal_of (Absent name) = refusal Missing (codes "absent: " ++ name)
 refusal_of (TooLong name) = refusal Missing (codes "too long: " ++ name)
 refusal_of (Damaged fault) = refusal Image (codes "image: " ++ damage_text fault)
+refusal_of (Uncompiled fault) = refusal Source (source_text fault)
 refusal_of (Unlinked file fault) = refusal Assembly (fault_text file fault.line fault.kind)
 refusal_of verdict = None
 

@@ -11,21 +11,25 @@ use Rattle.qv_outside.specs.declared.files.FileFault.{FileFault}
 use Rattle.qv_outside.specs.declared.files.FileFault.TheVariants.{Absent, TooLong, Failed, NoMemory as ReadNoMemory}
 use Rattle.qv_image.specs.declared.fault.ImageFault.{ImageFault}
 use Rattle.qv_image.specs.declared.fault.ImageFault.TheVariants.{NoMemory as NoMemoryForImage}
+use Rattle.pp_dir.specs.Endings.{Keeper}
+use Rattle.qcc_front.specs.declared.fault.CompileStop.{CompileStop}
+use Rattle.qcc_front.specs.declared.fault.CompileStop.TheVariants as stop
 use Rattle.qv_tool.specs.declared.report.Report.{Report}
 use Rattle.qv_tool.specs.declared.status.Status.{Status}
-use Rattle.qv_tool.specs.declared.status.Status.TheVariants.{Done, Missing, Assembly, Image, ReadFault, WriteFault, NoMemory as Wants}
+use Rattle.qv_tool.specs.declared.status.Status.TheVariants.{Done, Missing, NotYet, Source, Assembly, Image, ReadFault, WriteFault, NoMemory as Wants}
 use Rattle.qv_tool.specs.Answers.{BreaksOff, Reports}
 use Rattle.qv_tool.specs.Causes.{HasCause, IsSilent}
 use Rattle.qv_tool.specs.Assembly.{fault_text}
 use Rattle.qv_tool.specs.Damage.{damage_text}
 use Rattle.qv_tool.specs.Ending.{line}
+use Rattle.qv_tool.specs.Faulty.{source_text}
 use Rattle.qv_tool.specs.declared.gather.Sources.{Sources}
 use Rattle.qv_tool.specs.declared.gather.Sources.TheVariants.{Texts, Refused}
 use Rattle.qv_tool.specs.declared.list.Listed.{Listed}
 use Rattle.qv_tool.specs.declared.list.Listed.TheVariants.{Names, BadLine}
 use Rattle.qv_tool.specs.Gathered.{Found, Lacking, Overlong, gathered}
 use Rattle.qv_tool.specs.Verdict.{named_in, of_files, verdict}
-use Rattle.qv_tool.specs.World.{Keeper, World}
+use Rattle.qv_tool.specs.World.{World}
 use Rattle.qv_words.specs.Words.{Command}
 
 -- the status of a report, or that of want of memory
@@ -94,6 +98,15 @@ Delivers before after name bytes (Err _) = Keeps before after
 abbrev pub SaysUnlinked : List ℕ → AsmKind → AsmFault → Report → Type 0
 SaysUnlinked file LinkNoMemory fault report = ⊥
 SaysUnlinked file kind fault report = Says Assembly (line (fault_text file fault.line fault.kind)) report
+
+-- the report of why units aren't compiled
+abbrev pub SaysUncompiled : CompileStop → Report → Type 0
+SaysUncompiled (stop.Source fault) report = Says Source (line (source_text fault)) report
+SaysUncompiled (stop.Absent name) report = Says Missing (line (codes "absent: " ++ name)) report
+SaysUncompiled (stop.TooLong name) report = Says Missing (line (codes "too long: " ++ name)) report
+SaysUncompiled (stop.ReadFault name) report = Says ReadFault (line (codes "read fault: " ++ name)) report
+SaysUncompiled stop.NotYet report = Says NotYet (line (codes "not yet")) report
+SaysUncompiled stop.NoMemory report = ⊥
 
 -- the report of a fault of an image
 abbrev pub SaysDamaged : ImageFault → Report → Type 0

@@ -1,18 +1,11 @@
 -- The world that a command may change: the files, what is printed, and what the host is asked.
-use Rattle.std.specs.Prelude.{ℕ, List, Option}
-use Rattle.qv_outside.specs.FileMap.{FileMap}
+use Rattle.std.specs.Prelude.{ℕ}
 use Rattle.qv_outside.specs.Hosts.{Table}
 use Rattle.qv_outside.specs.declared.files.Files as keeping
 use Rattle.qv_outside.specs.declared.sink.Sink as printing
 use Rattle.qv_outside.specs.declared.host.Host as hosting
 use Rattle.vm_core.specs.Ran.{Outside, outside}
-
--- what a keeper of files tells: the files, the name of the last call that failed, and how many reads and writes failed
-pub record Keeper : Type 0 where
-  pub held : Option FileMap
-  pub failed : Option (List ℕ)
-  pub read_faults : ℕ
-  pub write_faults : ℕ
+use Rattle.pp_dir.specs.Endings.{Keeper, keeper_of}
 
 -- what the output and the host tell: what was printed, asked and replied, how many puts and calls failed, and the
 -- host's traps
@@ -28,10 +21,6 @@ pub record World : Type 0 where
 
 abbrev pub world : Keeper → Surroundings → World
 world files around = record { files = files; around = around }
-
--- what these files tell
-abbrev pub keeper_of : {F : Type 0} → keeping.Ghosts F → F → Keeper
-keeper_of g files = record { held = g.held files; failed = g.failed files; read_faults = g.read_faults files; write_faults = g.write_faults files }
 
 -- what this output and this host tell
 abbrev pub around_of : {O H : Type 0} → printing.Ghosts O → hosting.Ghosts H → O → H → Surroundings

@@ -1,12 +1,13 @@
 -- The files that a command writes.
-use Rattle.std.specs.Prelude.{◌≡◌, ℕ, List, [], ◌∷◌, ◌++◌, Option, Some}
+use Rattle.std.specs.Prelude.{◌≡◌, ℕ, List, [], ◌∷◌, ◌++◌, map, Option, Some}
 use Rattle.qv_image.specs.Image.{file_bytes}
 use Rattle.qv_outside.specs.Causes.{Rose}
 use Rattle.qv_outside.specs.FileMap.{FileMap, with_file, Torn}
 use Rattle.qv_dis.specs.Text.{disassembly}
+use Rattle.qcc_front.specs.Source.{SourceRun}
+use Rattle.pp_dir.specs.Endings.{Keeper}
 use Rattle.qv_tool.specs.Built.{Assembles, IsFollower}
 use Rattle.qv_tool.specs.Verdict.{Verdict, Compiles, Disassembles, Links, Runs, Builds}
-use Rattle.qv_tool.specs.World.{Keeper}
 
 -- a name with its bytes
 abbrev pub File : Type 0
@@ -16,9 +17,14 @@ File = List ℕ × List ℕ
 abbrev pub OneFile : List ℕ → (List ℕ → Type 0) → List File → Type 0
 OneFile name IsRight files = (bytes : List ℕ) × (files ≡ (name, bytes) ∷ []) × IsRight bytes
 
+-- files of these names, whose texts are linked to an image that follows the program
+pub record AreTexts (names : List (List ℕ)) (run : SourceRun) (files : List File) : Type 0 where
+  pub named : map (λ (f : File). f.0) files ≡ names
+  pub assembles : Assembles run (map (λ (f : File). f.1) files)
+
 -- the files that a command writes, in order
 abbrev pub Writes : Verdict → List File → Type 0
-Writes (Compiles text run) files = OneFile text (Assembles run) files
+Writes (Compiles names run) files = AreTexts names run files
 Writes (Links image z) files = OneFile image (λ bytes. bytes ≡ file_bytes z) files
 Writes (Disassembles file z) files = OneFile file (λ bytes. bytes ≡ disassembly z) files
 Writes (Runs steps calls z) files = files ≡ []

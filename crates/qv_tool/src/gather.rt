@@ -1,7 +1,7 @@
 // Reading several files.
 ghost use Rattle.std.specs.Prelude.{◌≡◌, ◌≤◌, IfOk, length, map, string_bytes};
+ghost use Rattle.pp_dir.specs.Endings.{keeper_of};
 ghost use Rattle.qv_tool.specs.Work.{Gathers, HasCount};
-ghost use Rattle.qv_tool.specs.World.{keeper_of};
 
 use crate::report::{Report, unread};
 use asm_link::fault::AsmFile;

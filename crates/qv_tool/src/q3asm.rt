@@ -1,10 +1,11 @@
 // The command q3asm: links assembly files to an image.
 ghost use Rattle.std.specs.Prelude.{◌≡◌, ◌<◌, ◌^◌, IfOk, IfSome, Some, length, map, string_bytes};
+ghost use Rattle.pp_dir.specs.Endings.{keeper_of};
 ghost use Rattle.qv_tool.specs.Causes.{IsServed};
 ghost use Rattle.qv_tool.specs.Task.{AssembleList, task_of};
 ghost use Rattle.qv_tool.specs.Verdict.{name_at};
 ghost use Rattle.qv_tool.specs.Work.{Asks, Works, SaysUnlinked};
-ghost use Rattle.qv_tool.specs.World.{Surroundings, keeper_of, world};
+ghost use Rattle.qv_tool.specs.World.{Surroundings, world};
 ghost use Rattle.qv_words.specs.Words.{Command};
 
 use crate::gather::{Sources, gather};

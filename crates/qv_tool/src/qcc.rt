@@ -1,48 +1,53 @@
 // The command qcc: compiles a unit to assembly text.
-ghost use Rattle.std.specs.Prelude.{◌≡◌, IfOk, Some, string_bytes};
-ghost use Rattle.qcc_front.specs.Sum.{sum_run};
-ghost use Rattle.qcc_front.specs.Unit.{sum_of};
-ghost use Rattle.qv_tool.specs.Built.{Assembles};
+ghost use Rattle.std.specs.Prelude.{◌≡◌, ◌∷◌, [], IfOk, Some, length, string_bytes};
+ghost use Rattle.pp_dir.specs.Endings.{keeper_of};
+ghost use Rattle.qcc_front.specs.Job.{job_shown, single_unit};
 ghost use Rattle.qv_tool.specs.Task.{Compile, task_of, text_name};
 ghost use Rattle.qv_tool.specs.Work.{Works};
-ghost use Rattle.qv_tool.specs.World.{Surroundings, keeper_of, world};
+ghost use Rattle.qv_tool.specs.World.{Surroundings, world};
 ghost use Rattle.qv_words.specs.Words.{Command};
 
-use crate::report::{Report, not_yet, unread};
+use crate::report::Report;
 use crate::store::deliver;
+use crate::uncompiled::uncompiled;
+use asm_link::fault::AsmFile;
 use qcc_front::compile::compile;
-use qcc_front::unit::Unit;
+use qcc_front::job::SourceJob;
 use qv_base::NoMemory;
 use qv_outside::files::Files;
 use qv_words::names::stem;
 use std::alloc::Global;
 
-/// Reads the unit and writes its text to the folder, under the unit's stem.
+/// Compiles the one unit of the job and writes its text to the folder, under the unit's stem.
 pub fn qcc<F: Files>(
     alloc: Global,
     folder: &str,
+    job: &SourceJob,
     unit: &str,
     files: &mut F,
 ) -> Result<Report, NoMemory>
-    ensures { (around : Surroundings) (c : Command) → task_of c ≡ Some (Compile folder.now unit.now) → Works (Some c) (world (keeper_of F.Files files.old) around) (world (keeper_of F.Files files.new) around) result }
+    requires { single_unit (job_shown job.now) ≡ Some unit.now }
+    ensures { (around : Surroundings) (c : Command) → task_of c ≡ Some (Compile folder.now (job_shown job.now)) → Works (Some c) (world (keeper_of F.Files files.old) around) (world (keeper_of F.Files files.new) around) result }
 {
-    let source = match files.read(alloc, unit) {
-        Ok(source) => source,
-        Err(fault) => return unread(alloc, unit, fault),
+    let compiled = match compile(alloc, job, files) {
+        Ok(compiled) => compiled,
+        Err(stop) => return uncompiled(alloc, &stop),
     };
-    let Some(parsed) = Unit::parse(alloc, &source)? else {
-        return not_yet(alloc);
-    };
-    let text = compiled(alloc, &parsed)?;
+    let text = sole(&compiled.texts);
     let name = text_name(alloc, folder, unit)?;
-    deliver(alloc, files, name.as_str(), &text)
+    deliver(alloc, files, name.as_str(), &text.text)
 }
 
-// The unit's text.
-fn compiled(alloc: Global, unit: &Unit) -> Result<Vec<u8>, NoMemory>
-    ensures { IfOk result (λ text. Assembles (sum_run (sum_of unit.now)) text.items) }
+// The one text.
+#[tactic(auto, using(crate::proofs::Compiling::alone))]
+fn sole(texts: &[AsmFile]) -> &AsmFile
+    requires { length texts.now ≡ 1 }
+    ensures { texts.now ≡ result.now ∷ [] }
 {
-    compile(alloc, unit)
+    match texts.split_first() {
+        Some((text, _)) => text,
+        None => unreachable!(),
+    }
 }
 
 // The name of the unit's text.

@@ -1,8 +1,9 @@
 // The command qdis: writes an image as assembly.
 ghost use Rattle.std.specs.Prelude.{◌≡◌, Some};
+ghost use Rattle.pp_dir.specs.Endings.{keeper_of};
 ghost use Rattle.qv_tool.specs.Task.{Disassemble, task_of};
 ghost use Rattle.qv_tool.specs.Work.{Works};
-ghost use Rattle.qv_tool.specs.World.{Surroundings, keeper_of, world};
+ghost use Rattle.qv_tool.specs.World.{Surroundings, world};
 ghost use Rattle.qv_words.specs.Words.{Command};
 
 use crate::damaged::damaged;

@@ -9,6 +9,8 @@ pub enum Status {
     Done,
     /// The words stand for no command.
     Usage,
+    /// A source has a fault.
+    Source,
     /// The assembly isn't linked.
     Assembly,
     /// The file is no image.
@@ -38,6 +40,7 @@ pub fn status_code(status: &Status) -> u8
     match status {
         Status::Done => 0,
         Status::Usage => 1,
+        Status::Source => 2,
         Status::Assembly => 3,
         Status::Image => 4,
         Status::Stopped => 5,

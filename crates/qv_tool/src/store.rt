@@ -1,6 +1,6 @@
 // Writing the file of a command.
+ghost use Rattle.pp_dir.specs.Endings.{keeper_of};
 ghost use Rattle.qv_tool.specs.Work.{Delivers, Stores};
-ghost use Rattle.qv_tool.specs.World.{keeper_of};
 
 use crate::report::{Report, done, write_fault};
 use qv_base::NoMemory;

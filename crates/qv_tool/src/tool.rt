@@ -1,5 +1,5 @@
 // The top call.
-ghost use Rattle.std.specs.Prelude.{◌≡◌, ◌⊎◌, ◌++◌, map, string_bytes, IfSome, Some, None, codes};
+ghost use Rattle.std.specs.Prelude.{◌≡◌, ◌⊎◌, map, string_bytes, IfSome, Some, None, codes};
 ghost use Rattle.qv_outside.specs.Causes.{Rose};
 ghost use Rattle.qv_outside.specs.Told.{Appends};
 ghost use Rattle.qv_tool.specs.Answers.{BreaksOff, Completed, LineFailed, ReadFailed, Refused, WriteFailed};
@@ -19,8 +19,8 @@ use crate::qcc::qcc;
 use crate::qdis::qdis;
 use crate::qrun::qrun;
 use crate::report::{Report, not_yet, usage};
-use crate::served::plain_unit;
 use crate::status::Status;
+use qcc_front::job::SourceJob;
 use qv_base::NoMemory;
 use qv_outside::files::Files;
 use qv_outside::host::Host;
@@ -31,8 +31,8 @@ use std::alloc::Global;
 
 /// Does what the words of the command line say, over these files, streams and host.
 ///
-/// The words are those of `read_words`. Served so far are `qcc` and `qall` with one unit and without the
-/// options of the compiler, `q3asm`, `qdis` and `qrun`; for the others the status is NotYet. One line at the
+/// The words are those of `read_words`. Served so far are `qcc` and `qall` with one unit and without `-t`, `q3asm`,
+/// `qdis` and `qrun`; for the others the status is NotYet. One line at the
 /// end of `err` tells how it went; `out` is for what the module prints.
 pub fn tool<F: Files, O: Sink, E: Sink, H: Host>(
     alloc: Global,
@@ -104,7 +104,7 @@ fn work<F: Files, O: Sink, H: Host>(
     ensures kept { H.kept host.new ≡ H.kept host.old }
 {
     match read_words(alloc, words)? {
-        Some(command) => serve(alloc, &command, files, out, host),
+        Some(command) => serve(alloc, command, files, out, host),
         None => usage(alloc),
     }
 }
@@ -112,13 +112,13 @@ fn work<F: Files, O: Sink, H: Host>(
 // Does what the command asks for.
 fn serve<F: Files, O: Sink, H: Host>(
     alloc: Global,
-    command: &Command,
+    command: Command,
     files: &mut F,
     out: &mut O,
     host: &mut H,
 ) -> Result<Report, NoMemory>
-    requires { KeepsLimits command.now }
-    ensures works { Works (Some (command_shown command.now)) (world_of F.Files O.Sink H.Host files.old out.old host.old) (world_of F.Files O.Sink H.Host files.new out.new host.new) result }
+    requires { KeepsLimits command }
+    ensures works { Works (Some (command_shown command)) (world_of F.Files O.Sink H.Host files.old out.old host.old) (world_of F.Files O.Sink H.Host files.new out.new host.new) result }
     ensures kept { H.kept host.new ≡ H.kept host.old }
 {
     match command {
@@ -129,43 +129,52 @@ fn serve<F: Files, O: Sink, H: Host>(
             folder,
             units,
         } => {
-            let Some(unit) = plain_unit(dirs, defs, binds, units) else {
+            let job = SourceJob {
+                units,
+                dirs,
+                defs,
+                binds,
+            };
+            let Some(unit) = job.single_unit() else {
                 return not_yet(alloc);
             };
-            qcc(alloc, folder, unit, files)
+            qcc(alloc, &folder, &job, unit, files)
         }
         Command::Q3asm {
             image,
             files: names,
-            list: None,
-        } => q3asm(alloc, image, names, files),
-        Command::Q3asm {
-            image,
-            list: Some(list),
-            ..
-        } => q3asm_list(alloc, image, list, files),
-        Command::Qdis { image, file } => qdis(alloc, image, file, files),
+            list,
+        } => match list {
+            None => q3asm(alloc, &image, &names, files),
+            Some(list) => q3asm_list(alloc, &image, &list, files),
+        },
+        Command::Qdis { image, file } => qdis(alloc, &image, &file, files),
         Command::Qrun {
             steps,
             calls,
             image,
-        } => { qrun(alloc, *steps, calls, image, files, out, host) }
+        } => qrun(alloc, steps, &calls, &image, files, out, host),
         Command::Qall {
             dirs,
             defs,
             binds,
-            seed_size: None,
+            seed_size,
             steps,
             calls,
             image,
             units,
         } => {
-            let Some(unit) = plain_unit(dirs, defs, binds, units) else {
-                return not_yet(alloc);
+            let job = SourceJob {
+                units,
+                dirs,
+                defs,
+                binds,
             };
-            qall(alloc, *steps, calls, image, unit, files, out, host)
+            if seed_size.is_some() || job.single_unit().is_none() {
+                return not_yet(alloc);
+            }
+            qall(alloc, steps, &calls, &image, &job, files, out, host)
         }
-        Command::Qall { .. } => not_yet(alloc),
     }
 }
 

@@ -2,9 +2,9 @@ use Rattle.std.proofs.Common.{◌≡◌, ◌∙◌, ◌<◌, ◌≤◌, ◌++◌
 use Rattle.std.specs.Prelude.{IfSome}
 use Rattle.std.proofs.lemmas.List.{get_or-map, length-map, map-append}
 use Rattle.asm_link.specs.Shown.{texts_of}
+use Rattle.pp_dir.specs.Endings.{keeper_of}
 use Rattle.qv_tool.specs.Gathered.{gathered}
 use Rattle.qv_tool.specs.Work.{SaysUnread}
-use Rattle.qv_tool.specs.World.{keeper_of}
 use Rattle.qv_tool.proofs.Gathering.{gather_done, gather_more, gather_refused, with_texts}
 use Rattle.qv_tool.proofs.Told.{read_stays}
 use Rattle.qv_tool.proofs.gather.gather.Goals as goal

@@ -5,10 +5,10 @@ use Rattle.asm_link.specs.Link.{linked}
 use Rattle.asm_link.specs.Shown.{texts_of}
 use Rattle.qv_image.specs.Image.{file_bytes}
 use Rattle.qv_image.specs.Shown.{qvm_of}
+use Rattle.pp_dir.specs.Endings.{keeper_of}
 use Rattle.qv_tool.specs.declared.gather.Sources.{Sources}
 use Rattle.qv_tool.specs.Verdict.{Links, of_linked}
 use Rattle.qv_tool.specs.Work.{Gathers, HasCount}
-use Rattle.qv_tool.specs.World.{keeper_of}
 use Rattle.qv_tool.proofs.Refusing.{found_goes, unfound_works, unlinked_works}
 use Rattle.qv_tool.proofs.Told.{verdict_on}
 use Rattle.qv_tool.proofs.Working.{delivered_works}

@@ -1,10 +1,10 @@
 use Rattle.std.proofs.Common.{◌≡◌, ◌∙◌, Ok, Some, map, string_bytes, sym, ap, subst}
 use Rattle.qv_outside.specs.FileMap.{content}
+use Rattle.pp_dir.specs.Endings.{keeper_of}
 use Rattle.qv_tool.specs.declared.list.Listed.{Listed}
 use Rattle.qv_tool.specs.Names.{names_in}
 use Rattle.qv_tool.specs.Verdict.{of_list, of_source, of_task, verdict}
 use Rattle.qv_tool.specs.Work.{IsListed}
-use Rattle.qv_tool.specs.World.{keeper_of}
 use Rattle.qv_tool.proofs.Linking.{list_asked, works_since}
 use Rattle.qv_tool.proofs.Refusing.{served_by}
 use Rattle.qv_tool.proofs.Told.{if_told, needs_list, read_stays}

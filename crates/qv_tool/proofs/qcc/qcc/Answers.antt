@@ -1,32 +1,31 @@
-use Rattle.std.proofs.Common.{rules, ◌≡◌, ◌∙◌, Some, Ok, refl, sym, ap, subst, List, ℕ}
-use Rattle.qv_outside.specs.FileMap.{FileMap, content}
-use Rattle.qcc_front.specs.FirstForm.{unit_of}
+use Rattle.std.proofs.Common.{rules, ◌≡◌, ◌∙◌, length, Some, ap, [], ◌∷◌, map}
+use Rattle.pp_dir.specs.Endings.{keeper_of}
+use Rattle.qcc_front.specs.Job.{job_shown}
+use Rattle.qcc_front.specs.Source.{SourceRun}
 use Rattle.qcc_front.specs.Sum.{sum_run}
-use Rattle.qcc_front.specs.Unit.{sum_of}
-use Rattle.qv_tool.specs.Built.{Assembles}
 use Rattle.qv_tool.specs.Task.{text_name}
-use Rattle.qv_tool.specs.Verdict.{Verdict, Compiles, of_source, of_task, of_unit, verdict}
-use Rattle.qv_tool.specs.World.{keeper_of}
+use Rattle.qv_tool.specs.Verdict.{Verdict, Compiles, of_task, read_for}
+use Rattle.qv_tool.proofs.Compiling.{one_text, program_of, text_written, uncompiled_works, unready_by}
 use Rattle.qv_tool.proofs.Refusing.{served_by}
-use Rattle.qv_tool.proofs.Told.{if_told, needs_one, read_goes, read_stays, verdict_on}
-use Rattle.qv_tool.proofs.Working.{delivered_works, unread_works}
+use Rattle.qv_tool.proofs.Working.{delivered_works}
 use Rattle.qv_tool.proofs.qcc.qcc.Goals as goal
+
+pub sole-text-requires : goal.sole-text-requires
+sole-text-requires g c = ap length c.deref.ensures.value ∙ one_text c.args.unit.now (job_shown c.args.job.now) c.in-Ok.compiled.texts.items c.requires c.in-Ok.ensures.names
 
 pub returns-in-Err : goal.returns-in-Err
 returns-in-Err g c = λ around command asked.
-    let go : FileMap → List ℕ → Verdict = λ held bytes. of_unit (Compiles (text_name c.args.folder.now c.args.unit.now)) (unit_of bytes) in
-    unread_works (Some command) around _ _ c.args.unit.now go (served_by command _ asked) (needs_one command _ c.args.unit.now _ asked (λ held. refl))
-    (if_told (λ held. verdict held (Some command) ≡ of_source c.args.unit.now (go held) (content held c.args.unit.now)) _ (λ held. ap (of_task held) asked)) c.in-Err.fault c.unread.result c.in-Err.ensures.told c.in-Err.ensures.named c.in-Err.ensures.cause c.unread.ensures
+    let job = job_shown c.args.job.now in
+    let go : SourceRun → Verdict = Compiles (map (text_name c.args.folder.now) job.units) in
+    uncompiled_works command job go (λ held. ap (of_task held) asked) (λ held. ap (read_for held) asked) (served_by command _ asked) (unready_by command _ asked tt) around _ _ c.in-Err.stop c.uncompiled.result c.in-Err.ensures.told c.in-Err.ensures.keeps c.uncompiled.ensures
 
 pub returns : goal.returns
 returns g c = λ around command asked.
-    let is : Some (sum_of c.in-Some.parsed) ≡ unit_of c.in-Ok.source.items = search rules in
+    let job = job_shown c.args.job.now in
+    let go : SourceRun → Verdict = Compiles (map (text_name c.args.folder.now) job.units) in
+    let p = program_of command job go (λ held. ap (of_task held) asked) c.in-Ok.compiled _ c.in-Ok.ensures.told c.in-Ok.ensures.assembles in
     let named : c.as_str.result.now ≡ text_name c.args.folder.now c.args.unit.now = search rules in
-    let same : c.deref-2.result.now ≡ c.in_ok-text.text.items = search rules in
-    let W : List ℕ → Type 0 = λ b. Assembles (sum_run (sum_of c.in-Some.parsed)) b in
-    let go : FileMap → List ℕ → Verdict = λ held bytes. of_unit (Compiles (text_name c.args.folder.now c.args.unit.now)) (unit_of bytes) in
-    let V : List ℕ → Verdict = λ name. Compiles name (sum_run (sum_of c.in-Some.parsed)) in
-    delivered_works (Some command) around _ _ (V c.as_str.result.now) (keeper_of g.F.Files c.read.new.self) c.as_str.result.now c.deref-2.result.now (served_by command _ asked)
-    (verdict_on (Some command) _ (V c.as_str.result.now) _ (sym (ap (of_unit (Compiles (text_name c.args.folder.now c.args.unit.now))) is) ∙ ap V (sym named))
-    (read_goes (Some command) c.args.unit.now go _ _ c.in-Ok.source (if_told (λ held. verdict held (Some command) ≡ of_source c.args.unit.now (go held) (content held c.args.unit.now)) _ (λ held. ap (of_task held) asked)) c.in-Ok.ensures.told))
-    (read_stays _ _ c.args.unit.now (Ok c.in-Ok.source) c.in-Ok.ensures.told) c.in-Ok.ensures.writes_stay (c.deref-2.result.now, refl, subst W (sym same) c.in_ok-text.ensures) (λ held done. done) c.deliver.result c.deliver.ensures
+    let bytes : c.deref-2.result.now ≡ c.sole-text.result.now.text.items = search rules in
+    let one : c.in-Ok.compiled.texts.items ≡ c.sole-text.result.now ∷ [] = search rules in
+    delivered_works (Some command) around _ _ (go (sum_run p.0)) (keeper_of g.F.Files c.compile.new.files) c.as_str.result.now c.deref-2.result.now (served_by command _ asked) p.2 c.in-Ok.ensures.keeps.same c.in-Ok.ensures.keeps.writes_stay
+    (text_written c.args.folder.now c.args.unit.now c.as_str.result.now c.deref-2.result.now job c.sole-text.result.now c.in-Ok.compiled.texts.items p.0 c.requires one named bytes p.1) (λ held done. done) c.deliver.result c.deliver.ensures

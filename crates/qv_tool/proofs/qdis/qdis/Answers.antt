@@ -3,8 +3,8 @@ use Rattle.qv_dis.specs.Text.{disassembly}
 use Rattle.qv_image.specs.Read.{IsRead, read_bytes}
 use Rattle.qv_image.specs.Shown.{qvm_of}
 use Rattle.qv_outside.specs.FileMap.{FileMap, content}
+use Rattle.pp_dir.specs.Endings.{keeper_of}
 use Rattle.qv_tool.specs.Verdict.{Verdict, Disassembles, of_source, of_text, of_task, verdict}
-use Rattle.qv_tool.specs.World.{keeper_of}
 use Rattle.qv_tool.proofs.Refusing.{damaged_works, served_by}
 use Rattle.qv_tool.proofs.Told.{if_told, needs_one, read_goes, read_stays, verdict_on}
 use Rattle.qv_tool.proofs.Working.{delivered_works, unread_works}

@@ -2,8 +2,8 @@ use Rattle.std.proofs.Common.{◌≡◌, ◌∙◌, Some, Ok, Err, refl, sym, ap
 use Rattle.qv_image.specs.Read.{IsRead, read_bytes}
 use Rattle.qv_image.specs.Shown.{qvm_of}
 use Rattle.qv_outside.specs.FileMap.{FileMap, content}
+use Rattle.pp_dir.specs.Endings.{keeper_of}
 use Rattle.qv_tool.specs.Verdict.{Verdict, Runs, of_image, of_source, of_task, verdict}
-use Rattle.qv_tool.specs.World.{keeper_of}
 use Rattle.qv_tool.proofs.Calling.{calls_by, played_works}
 use Rattle.qv_tool.proofs.Refusing.{damaged_works, served_by}
 use Rattle.qv_tool.proofs.Told.{if_told, needs_one, read_goes, read_stays, verdict_on}

@@ -3,8 +3,8 @@ use Rattle.std.specs.Prelude.{IfSome}
 use Rattle.qv_outside.specs.FileMap.{FileMap, Torn, Writes, failed_by_write}
 use Rattle.qv_outside.specs.declared.files.WriteFault.{WriteFault}
 use Rattle.qv_outside.specs.declared.files.WriteFault.TheVariants.{Failed}
+use Rattle.pp_dir.specs.Endings.{Keeper, keeper_of}
 use Rattle.qv_tool.specs.Work.{TornAt}
-use Rattle.qv_tool.specs.World.{Keeper, keeper_of}
 use Rattle.qv_tool.proofs.Told.{along_both}
 use Rattle.qv_tool.proofs.store.store.Goals as goal
 

@@ -3,7 +3,7 @@ use Rattle.std.specs.Prelude.{IsTrue}
 use Rattle.std.specs.List.{flat_map, list_all}
 use Rattle.qasm_write.specs.Unit.{constant_fits}
 use Rattle.qcc_front.specs.Translation.{signed_lines}
-use Rattle.qcc_front.proofs.compile.put_signed.Given as goal
+use Rattle.qcc_front.proofs.translate.put_signed.Given as goal
 
 abbrev pub invariant-loop-signed : goal.invariant-loop-signed
 invariant-loop-signed l = record {
