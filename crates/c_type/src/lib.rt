@@ -1,4 +1,6 @@
 //! Types of C.
 #![tactic(auto)]
 
+pub mod ctype;
 pub mod kind;
+pub mod operator;
