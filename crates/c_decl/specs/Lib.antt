@@ -1,0 +1,12 @@
+pub mod Tokens
+pub mod State
+pub mod Marks
+pub mod Grammar
+pub mod Input
+pub mod Units
+pub mod Entries
+pub mod Declarators
+pub mod Expressions
+pub mod Statements
+pub mod Reading
+pub mod Parsed
