@@ -33,3 +33,7 @@ pub mod LocalExpressions
 pub mod LocalStatements
 pub mod Local
 pub mod Parsed
+pub mod SpelledTrees
+pub mod SpelledMarks
+pub mod SpelledLists
+pub mod Spelled

@@ -10,3 +10,4 @@ pub mod Expressions
 pub mod Statements
 pub mod Reading
 pub mod Parsed
+pub mod Spelled
