@@ -1,5 +1,9 @@
+pub mod Numbered
+pub mod Turns
 pub mod Tests
 pub mod Room
+pub mod Scopes
+pub mod Deeper
 pub mod Runs
 pub mod Took
 pub mod Fresh
@@ -33,7 +37,16 @@ pub mod LocalExpressions
 pub mod LocalStatements
 pub mod Local
 pub mod Parsed
+pub mod Places
 pub mod SpelledTrees
 pub mod SpelledMarks
 pub mod SpelledLists
 pub mod Spelled
+pub mod Passing
+pub mod SpansPass
+pub mod PartsTold
+pub mod Sinks
+pub mod SinksDeclarators
+pub mod SinksExpressions
+pub mod PartsRead
+pub mod PartsExpressions

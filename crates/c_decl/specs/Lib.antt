@@ -9,5 +9,11 @@ pub mod Declarators
 pub mod Expressions
 pub mod Statements
 pub mod Reading
+pub mod Made
+pub mod Cursor
+pub mod Nests
+pub mod Layers
 pub mod Parsed
+pub mod Told
 pub mod Spelled
+pub mod Parts

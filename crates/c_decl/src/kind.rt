@@ -1,5 +1,8 @@
 //! Kinds of phrases.
 
+ghost use Rattle.std.specs.Prelude.{◌≡◌};
+ghost use Rattle.c_decl.specs.Grammar as grammar;
+
 /// Whether a declarator has a name.
 #[derive(Clone, Copy, Debug, PartialEq, Eq)]
 pub enum DeclKind {
@@ -36,4 +39,27 @@ pub enum Jump {
     Continue,
     /// `break`
     Break,
+}
+
+/// What a declarator may be read as.
+#[derive(Clone, Copy, Debug, PartialEq, Eq)]
+pub enum DeclPart {
+    /// A declarator, of a kind, behind a type or not.
+    Declarator(DeclKind, bool),
+    /// A direct declarator.
+    Direct(DeclKind, bool),
+}
+
+/// Whether it has a name.
+pub fn is_named(kind: DeclKind) -> bool
+    ensures { result ≡ grammar.is_named kind }
+{
+    matches!(kind, DeclKind::Named)
+}
+
+/// Whether it has none.
+pub fn is_abstract(kind: DeclKind) -> bool
+    ensures { result ≡ grammar.is_abstract kind }
+{
+    matches!(kind, DeclKind::Abstract)
 }

@@ -1,0 +1,11 @@
+use Rattle.std.proofs.Common.{◌≡◌, ◌-◌}
+use Rattle.c_decl.specs.Input.{turns, looped, sees}
+use Rattle.c_tree.specs.Heights.{Below}
+use Rattle.c_decl.specs.Declarators as r
+use Rattle.c_decl.specs.Entries as entries
+use Rattle.c_tok.specs.declared.mark.Mark.TheVariants as m
+use Rattle.c_decl.specs.Nests.{parts_of}
+use Rattle.c_decl.proofs.rules.Rules.more_fields.Given as goal
+
+abbrev pub invariant-loop-turn : goal.invariant-loop-turn
+invariant-loop-turn g l = record { same : looped (λ _. sees m.Comma) (entries.comma_then (r.field l.self.mode (parts_of l.self.mode l.self.room) l.self.room l.has_width l.typed)) l.fn.left l.fn.cursor ≡ turns (λ _. sees m.Comma) (entries.comma_then (r.field l.self.mode (parts_of l.self.mode l.self.room) l.self.room l.has_width l.typed)) (l._turn-end - l._turn) l.left l.cursor; low : Below l.left.height (l.self.room) }

@@ -1,0 +1,4 @@
+pub mod Deeper
+pub mod Ended
+pub mod Floats
+pub mod Told
