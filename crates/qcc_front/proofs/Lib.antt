@@ -6,3 +6,4 @@ pub mod CodeFacts
 pub mod Assembling
 pub mod Returned
 pub mod Compiling
+pub mod Trees

@@ -1,11 +1,13 @@
 -- What a job's files come to: a program, or the first thing that refuses.
 use Rattle.std.specs.Prelude.{ℕ, List, [], Option, Some, None, Result, Ok, Err}
 use Rattle.qv_outside.specs.declared.files.FileFault.TheVariants as f
+use Rattle.pp_tok.specs.declared.token.PpTok.{PpTok}
 use Rattle.pp_dir.specs.declared.fault.PpFaultKind.{PpFaultKind}
 use Rattle.pp_dir.specs.declared.fault.PpFaultKind.TheVariants as k
 use Rattle.pp_dir.specs.declared.fault.PpStop.{PpStop}
 use Rattle.pp_dir.specs.declared.fault.PpStop.TheVariants as p
 use Rattle.pp_dir.specs.declared.state.State.{State}
+use Rattle.c_tree.specs.declared.stmt.Unit.{Unit as UnitTree}
 use Rattle.pp_dir.specs.Preprocessed.{Held, Outcome as UnitOutcome, preprocessed}
 use Rattle.qcc_front.specs.declared.fault.CompileStop.{CompileStop}
 use Rattle.qcc_front.specs.declared.fault.CompileStop.TheVariants.{Source, Absent, TooLong, ReadFault, NotYet, NoMemory}
@@ -14,6 +16,7 @@ use Rattle.qcc_front.specs.declared.fault.SourceKind.TheVariants as s
 use Rattle.qcc_front.specs.FirstForm.{spellings, unit_of}
 use Rattle.qcc_front.specs.Job.{Job, single_unit}
 use Rattle.qcc_front.specs.Sum.{Sum}
+use Rattle.qcc_front.specs.Tree.{tree_of}
 
 -- a program, and the names of the files that were tried
 pub record Accepted : Type 0 where
@@ -64,8 +67,13 @@ abbrev pub of_sum : List (List ℕ) → Option Sum → Outcome
 of_sum tried (Some program) = Ok (record { program = program; tried = tried })
 of_sum tried None = refused NotYet tried
 
+-- of a unit that has a tree: whether its tokens are of the form that is served
+abbrev pub of_tree : List (List ℕ) → List PpTok → Result UnitTree CompileStop → Outcome
+of_tree tried toks (Ok tree) = of_sum tried (unit_of (spellings toks))
+of_tree tried toks (Err stop) = refused stop tried
+
 abbrev pub of_unit : UnitOutcome State → Outcome
-of_unit (Ok unit) = of_sum unit.tried (unit_of (spellings unit.toks))
+of_unit (Ok unit) = of_tree unit.tried unit.toks (tree_of unit.names unit.toks)
 of_unit (Err stopped) = refused (stop_from stopped.stop) stopped.tried
 
 abbrev pub of_name : Held → Job → Option (List ℕ) → Outcome

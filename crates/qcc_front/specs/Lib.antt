@@ -6,5 +6,6 @@ pub mod Translation
 pub mod Assembles
 pub mod Unit
 pub mod Job
+pub mod Tree
 pub mod Accepted
 pub mod Compiled

@@ -15,6 +15,7 @@ ghost use Rattle.qcc_front.specs.Unit.{sum_of};
 use crate::fault::{CompileStop, stop_from};
 use crate::job::SourceJob;
 use crate::translate::translate;
+use crate::tree::tree_of;
 use crate::unit::Unit;
 use asm_link::fault::AsmFile;
 use pp_dir::unit::preprocess;
@@ -48,9 +49,13 @@ impl SourceJob {
 ///
 /// # Errors
 ///
-/// The first thing that refuses, in the order in which files are read: Source with the first fault of the unit, Absent
-/// or TooLong with the name of the unit or of a file that it includes, NotYet for what isn't served yet. ReadFault with
-/// the name of a file whose read failed; NoMemory where memory is refused.
+/// The first thing that refuses. Files are read in order, and from there come Absent or TooLong with the name of the
+/// unit or of a file that it includes, and Source with the first fault of preprocessing. Of what is read to the end
+/// comes Source with the first token that is no token of C (StrayByte, OpenQuote, BadConstant, FloatConstant,
+/// ConstantTooLarge, NameTooLong, or LeftOut of `wide`). Where all are, Source with the first `float` or `double`
+/// (FloatType); else with the place that is in no unit (Syntax); else with the first construct that is left out
+/// (LeftOut of `old-style`, `implicit int` or `bit-field`). NotYet for what is in the language and isn't served yet.
+/// ReadFault with the name of a file whose read failed; NoMemory where memory is refused.
 pub fn compile<F: Files>(
     alloc: Global,
     job: &SourceJob,
@@ -67,7 +72,7 @@ pub fn compile<F: Files>(
     }
 }
 
-// Compiles one unit.
+// Compiles one unit. It has a tree, whatever its form.
 #[tactic(auto, using(crate::proofs::Compiling::told_stop, crate::proofs::Compiling::told_not_first, crate::proofs::Compiling::told_first, crate::proofs::Compiling::keeps_read, crate::proofs::Compiling::keeps_stop))]
 fn compile_unit<F: Files>(
     alloc: Global,
@@ -85,6 +90,7 @@ fn compile_unit<F: Files>(
         Ok(read) => read,
         Err(stop) => return Err(stop_from(stop)),
     };
+    let _tree = tree_of(alloc, read.names.as_slice(), read.toks.as_slice())?;
     let Some(unit) = Unit::parse(alloc, read.toks.as_slice())? else {
         return Err(CompileStop::NotYet);
     };

@@ -10,4 +10,5 @@ pub mod sum;
 #[cfg(test)]
 mod tests;
 mod translate;
+mod tree;
 pub mod unit;

@@ -19,10 +19,41 @@ const UNITS: &[(&str, &str)] = &[
         "proc vmMain 0 0\nCNSTI4 1\nCNSTI4 3\nSUBI4\nRETI4\nendproc vmMain 0 0\n",
     ),
     ("int vmMain(int command) { return 00; }", "not yet"),
-    ("int vmMain(int command) { return 1; } x", "not yet"),
+    ("int vmMain(int command) { return command / 2; }", "not yet"),
     ("\n#if 1", "main.c:2: open if"),
     ("#include \"inc/two.h\"\n", "inc/two.h:1: left out line"),
     ("#include <no.h>\n", "main.c:1: no include no.h"),
+];
+
+// The file `main.c`, and what is told of the first token that isn't one of C, or of the tokens that are in no unit.
+const REFUSED_UNITS: &[(&str, &str)] = &[
+    ("", "main.c:1: syntax"),
+    ("int a;\n@ float", "main.c:2: stray byte"),
+    ("int a;\n\n'a\n", "main.c:3: open quote"),
+    ("int a = 08;", "main.c:1: bad constant"),
+    (
+        "#include <one.h>\nfloat f(int) {\n1.0",
+        "main.c:3: float constant",
+    ),
+    ("int a = 4294967296;", "main.c:1: constant too large"),
+    (
+        "#define N(a) a##a##a##a\nint\nN(nnnnnnnnnnnnnnnnnnnnnnnnnnnnnnnn);",
+        "main.c:1: name too long",
+    ),
+    ("char *a =\nL\"a\";", "main.c:2: left out wide"),
+    ("int a\nint;\ndouble b;", "main.c:3: float type"),
+    ("f() { }\nint a\nint;", "main.c:3: syntax"),
+    (
+        "int f(a)\nint a;\n{ return a; }",
+        "main.c:1: left out old-style",
+    ),
+    ("\nf(void) { return 1; }", "main.c:2: left out implicit int"),
+    ("struct S {\nint a : 1; };", "main.c:2: left out bit-field"),
+    ("#include \"inc/three.h\"\nint b;", "inc/three.h:2: syntax"),
+    (
+        "#include \"inc/four.h\"\nint b;",
+        "inc/four.h:3: float constant",
+    ),
 ];
 
 fn append(text: &mut Vec<u8>, more: &[u8]) -> Result<(), NoMemory> {
@@ -35,6 +66,14 @@ fn append_kind(text: &mut Vec<u8>, kind: &SourceKind) -> Result<(), NoMemory> {
         SourceKind::OpenIf => ("open if", b""),
         SourceKind::LeftOut(name) => ("left out ", name.bytes()),
         SourceKind::NoInclude(name) => ("no include ", name.bytes()),
+        SourceKind::StrayByte => ("stray byte", b""),
+        SourceKind::OpenQuote => ("open quote", b""),
+        SourceKind::BadConstant => ("bad constant", b""),
+        SourceKind::FloatConstant => ("float constant", b""),
+        SourceKind::ConstantTooLarge => ("constant too large", b""),
+        SourceKind::NameTooLong => ("name too long", b""),
+        SourceKind::FloatType => ("float type", b""),
+        SourceKind::Syntax => ("syntax", b""),
         _ => ("another fault", b""),
     };
     append(text, words.as_bytes())?;
@@ -75,6 +114,8 @@ fn files(alloc: Global, unit: &str) -> Result<SteadyFiles, NoMemory> {
     entries.push(entry(alloc, "main.c", unit)?)?;
     entries.push(entry(alloc, "inc/one.h", "#define ONE 1\n")?)?;
     entries.push(entry(alloc, "inc/two.h", "#line 2\n")?)?;
+    entries.push(entry(alloc, "inc/three.h", "int a\n}\n")?)?;
+    entries.push(entry(alloc, "inc/four.h", "int a;\n\nint b = 1.5;\n")?)?;
     Ok(SteadyFiles::new(entries))
 }
 
@@ -97,7 +138,7 @@ fn job(alloc: Global, unit: &str) -> Result<SourceJob, NoMemory> {
 #[test]
 fn jobs(rt: HostRuntime) -> Result<(), Fail> {
     let alloc = rt.alloc();
-    for (unit, wanted) in UNITS {
+    for (unit, wanted) in UNITS.iter().chain(REFUSED_UNITS) {
         let mut files = files(alloc, unit)?;
         let job = job(alloc, "main.c")?;
         let text = shown(alloc, compile(alloc, &job, &mut files))?;
