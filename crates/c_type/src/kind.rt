@@ -38,3 +38,27 @@ pub fn greatest(kind: IntKind) -> u32
         IntKind::UnsignedInt | IntKind::UnsignedLong => 4_294_967_295,
     }
 }
+
+/// How many bytes a value of the type has. It stands at a multiple of as many.
+pub fn bytes(kind: IntKind) -> u32
+    ensures { result ≡ spec.bytes kind }
+{
+    match kind {
+        IntKind::Char | IntKind::SignedChar | IntKind::UnsignedChar => 1,
+        IntKind::Short | IntKind::UnsignedShort => 2,
+        IntKind::Int | IntKind::UnsignedInt | IntKind::Long | IntKind::UnsignedLong => 4,
+    }
+}
+
+/// Whether the type has negative values.
+pub fn is_signed(kind: IntKind) -> bool
+    ensures { result ≡ spec.is_signed kind }
+{
+    match kind {
+        IntKind::Char | IntKind::SignedChar | IntKind::Short | IntKind::Int | IntKind::Long => true,
+        IntKind::UnsignedChar
+        | IntKind::UnsignedShort
+        | IntKind::UnsignedInt
+        | IntKind::UnsignedLong => false,
+    }
+}

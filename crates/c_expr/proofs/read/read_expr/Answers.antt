@@ -1,4 +1,4 @@
-use Rattle.std.proofs.Common.{◌≡◌, ◌≤◌, length, subst, sym}
+use Rattle.std.proofs.Common.{subst, sym}
 use Rattle.c_decl.specs.Cursor.{started}
 use Rattle.c_decl.specs.Reading.{read}
 use Rattle.c_decl.proofs.PartsExpressions.{comma_read, assignment_read, conditional_read, init_read}
